@@ -1,0 +1,59 @@
+-- What fresh returns, as a function of the test of its count; and that it is sound, so usable, refused or not.
+use Prim.Native.Nat.{ℕ, _≤_, _<_}
+use mathlib.Core.Path.{_≡_, refl}
+use mathlib.Core.Logic.{inl, Dec·and}
+use mathlib.Core.Bool.{Bool, true, false}
+use mathlib.Core.List.{[], _∷_}
+use native.Mathlib.Decide.{ℕ-discrete, decLe}
+use native.Mathlib.Omega.{arith}
+use lib.ListN.{getD-replicate}
+use Rattle.laws.specs.Decides.{Decides}
+use Rattle.laws.proofs.Deciding.{decides-not}
+use Rattle.dispatcher.specs.Limits.{coreLimit, slotLimit, none, LegalCount}
+use Rattle.dispatcher.specs.Slots.{noTask}
+use Rattle.dispatcher.specs.Sound.{Sound}
+use Rattle.dispatcher.specs.Answers.{numberOf}
+use Rattle.dispatcher.specs.Reports.{stillOf}
+use Rattle.dispatcher.specs.Fresh.{emptyOf, freshRefusals, Freshly}
+use Rattle.dispatcher.specs.declared.Answer.the-variants.{Done, CoreCount}
+use Rattle.dispatcher.specs.declared.Outcome.{Outcome}
+use Rattle.dispatcher.proofs.Judging.{test, firstOf, Judges, judged}
+
+abbrev pub freshOf : Bool → ℕ → Outcome
+freshOf true n = record { report = stillOf Done; dispatcher = emptyOf n }
+freshOf false n = record { report = stillOf CoreCount; dispatcher = emptyOf 1 }
+
+pub freshly : {b : Bool} {n : ℕ} → Decides (LegalCount n) b → Freshly n (freshOf b n)
+unfolding firstOf
+freshly {b = true} {n} l = record {
+  answer = judged 0 (freshRefusals n) (test false CoreCount ∷ []) (decides-not l, refl, omega arith, tt);
+  still = refl;
+  done = λ _. refl;
+  refused = λ z. absurd (z refl);
+}
+freshly {b = false} {n} l = record {
+  answer = judged 0 (freshRefusals n) (test true CoreCount ∷ []) (decides-not l, refl, omega arith, tt);
+  still = refl;
+  done = λ z. let y : _≡_ {A = ℕ} 2 0 = z in absurd (omega arith);
+  refused = λ _. refl;
+}
+
+pub empty-sound : {n : ℕ} → LegalCount n → Sound (emptyOf n)
+empty-sound {n} l = record {
+  count = l;
+  slots = λ s h u. absurd (u (rw (getD-replicate slotLimit s noTask noTask h) (refl, refl)));
+  order = λ k h o. absurd (o (getD-replicate slotLimit k none none h));
+  missing = λ c h m. getD-replicate coreLimit c none none h;
+  seats = λ c h o. absurd (o (getD-replicate coreLimit c none none h));
+}
+
+pub freshly-sound : {cores : ℕ} {r : Outcome} → Freshly cores r → Sound (r .dispatcher)
+freshly-sound {cores} {r} f = go (ℕ-discrete (numberOf (r .report .answer)) 0)
+  where
+    legal : numberOf (r .report .answer) ≡ 0 → Dec (LegalCount cores) → LegalCount cores
+    legal z (yes l) = l
+    legal z (no l) = let p = f .answer .lowest 2 (inl (refl, l)) in absurd (omega (arith, p .0))
+
+    go : Dec (numberOf (r .report .answer) ≡ 0) → Sound (r .dispatcher)
+    go (yes z) = rw (f .done z) (empty-sound (legal z (Dec·and (decLe 1 cores) (decLe cores coreLimit))))
+    go (no z) = rw (f .refused z) (empty-sound (omega arith))

@@ -1,0 +1,4 @@
+pub mod Judging
+pub mod Same
+pub mod Freshness
+pub mod Reading

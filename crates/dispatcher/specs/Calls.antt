@@ -1,0 +1,15 @@
+-- What every call on a lent dispatcher promises: its answer is the lowest number that applies; a refused call leaves the dispatcher
+-- unchanged and reports zero moves and none, none; an accepted one does what Done says.
+use mathlib.Core.Path.{_≡_}
+use mathlib.Core.Logic.{_≢_}
+use mathlib.Core.List.{List}
+use Rattle.dispatcher.specs.Answers.{numberOf, Refusal, Answers}
+use Rattle.dispatcher.specs.Reports.{stillOf}
+use Rattle.dispatcher.specs.declared.Dispatcher.{Dispatcher}
+use Rattle.dispatcher.specs.declared.Outcome.{Outcome}
+
+pub record Calls (refusals : List Refusal) (d : Dispatcher) (Done : Outcome → Type 0) (r : Outcome) : Type 0 where
+  pub answer : Answers refusals (numberOf (r .report .answer))
+  pub done : numberOf (r .report .answer) ≡ 0 → Done r
+  pub kept : numberOf (r .report .answer) ≢ 0 → r .dispatcher ≡ d
+  pub still : numberOf (r .report .answer) ≢ 0 → r .report ≡ stillOf (r .report .answer)

@@ -1,0 +1,8 @@
+pub mod Limits
+pub mod Slots
+pub mod Sound
+pub mod Answers
+pub mod Refusals
+pub mod Reports
+pub mod Calls
+pub mod Fresh

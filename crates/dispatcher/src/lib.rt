@@ -1,0 +1,170 @@
+// The dispatcher by value: its type and limits, a fresh one, and what every call answers and reports.
+ghost use mathlib.Core.Path.{_≡_};
+ghost use Rattle.laws.specs.Decides.{Decides};
+ghost use Rattle.dispatcher.specs.Limits.{LegalCount};
+ghost use Rattle.dispatcher.specs.Slots.{Used, Ready};
+ghost use Rattle.dispatcher.specs.Answers.{numberOf};
+ghost use Rattle.dispatcher.specs.Reports.{stillOf};
+ghost use Rattle.dispatcher.specs.Fresh.{emptyOf, Freshly};
+
+pub struct Task {
+    pub priority: u8,
+    pub mask: u32,
+}
+
+impl Task {
+    // A slot whose priority and mask are both 0 is empty.
+    pub fn is_used(self) -> bool
+        ensures { λ r. ⌜ Decides (Used self) r ⌝ }
+    {
+        if self.priority == 0 {
+            self.mask != 0
+        } else {
+            true
+        }
+    }
+}
+
+pub struct Dispatcher {
+    pub cores: u8,
+    // The task of each slot.
+    pub tasks: [Task; Dispatcher::SLOTS],
+    // The ready slots in the order in which they woke, then NONE.
+    pub order: [u16; Dispatcher::SLOTS],
+    // The slot that runs on each core, or NONE.
+    pub seats: [u16; Dispatcher::CORES],
+}
+
+// What a call answers. `number` gives document 01's number.
+pub enum Answer {
+    Done,
+    NotSound,
+    CoreCount,
+    SlotAbove,
+    SlotInUse,
+    SlotEmpty,
+    PriorityZero,
+    MaskEmpty,
+    MissingCore,
+    StillReady,
+}
+
+impl Answer {
+    pub fn number(self) -> u8
+        ensures { λ r. ⌜ r ≡ numberOf self ⌝ }
+    {
+        match self {
+            Answer::Done => 0,
+            Answer::NotSound => 1,
+            Answer::CoreCount => 2,
+            Answer::SlotAbove => 3,
+            Answer::SlotInUse => 4,
+            Answer::SlotEmpty => 5,
+            Answer::PriorityZero => 6,
+            Answer::MaskEmpty => 7,
+            Answer::MissingCore => 8,
+            Answer::StillReady => 11,
+        }
+    }
+}
+
+pub struct Report {
+    pub answer: Answer,
+    pub moves: u8,
+    // The slot that started, or NONE, and the slot that stopped, or NONE.
+    pub started: u16,
+    pub stopped: u16,
+}
+
+impl Report {
+    // Nobody moved, started or stopped.
+    pub fn still(answer: Answer) -> Report
+        ensures { λ r. ⌜ r ≡ stillOf answer ⌝ }
+    {
+        Report {
+            answer,
+            moves: 0,
+            started: Dispatcher::NONE,
+            stopped: Dispatcher::NONE,
+        }
+    }
+}
+
+// What a call by value gives back.
+pub struct Outcome {
+    pub report: Report,
+    pub dispatcher: Dispatcher,
+}
+
+impl Dispatcher {
+    // At most this many cores: a mask has a bit for each.
+    pub const CORES: usize = masks::WIDTH;
+
+    pub const SLOTS: usize = 128;
+
+    // The mark of an unused place and of an idle core.
+    pub const NONE: u16 = 255;
+
+    // At most this many events stand in an event file.
+    pub const EVENTS: usize = 16_000;
+
+    pub fn legal_count(cores: u8) -> bool
+        ensures { λ r. ⌜ Decides (LegalCount cores) r ⌝ }
+    {
+        if cores == 0 {
+            false
+        } else {
+            (cores as usize) <= Dispatcher::CORES
+        }
+    }
+
+    fn empty(cores: u8) -> Dispatcher
+        ensures { λ r. ⌜ r ≡ emptyOf cores ⌝ }
+    {
+        let task = Task {
+            priority: 0,
+            mask: 0,
+        };
+        let tasks = [task; Dispatcher::SLOTS];
+        let order = [Dispatcher::NONE; Dispatcher::SLOTS];
+        let seats = [Dispatcher::NONE; Dispatcher::CORES];
+        Dispatcher {
+            cores,
+            tasks,
+            order,
+            seats,
+        }
+    }
+
+    // An empty dispatcher of so many cores; of one core where the count is refused.
+    pub fn fresh(cores: u8) -> Outcome
+        ensures { λ r. ⌜ Freshly cores r ⌝ }
+    {
+        if !Dispatcher::legal_count(cores) {
+            let report = Report::still(Answer::CoreCount);
+            let dispatcher = Dispatcher::empty(1);
+            return Outcome { report, dispatcher };
+        }
+        let report = Report::still(Answer::Done);
+        let dispatcher = Dispatcher::empty(cores);
+        Outcome { report, dispatcher }
+    }
+
+    // Whether the slot stands in the wake order.
+    pub fn is_ready(self, slot: u16) -> bool
+        ensures { λ r. ⌜ Decides (Ready self slot) r ⌝ }
+    {
+        if Dispatcher::SLOTS <= (slot as usize) {
+            return false;
+        }
+        let mut k: usize = 0;
+        while k < Dispatcher::SLOTS {
+            let stands = self.order[k];
+            if stands == slot {
+                return true;
+            }
+            k += 1;
+        }
+        false
+    }
+}

@@ -1,0 +1,24 @@
+-- Document 01, "Numbers": a mask has 32 bits, bit k for core k. It is legal where it is not empty and has no bit at or above the core count.
+use Prim.Native.Nat.{ℕ, _/_, _%_, _^_, _≤_, _<_}
+use mathlib.Core.Path.{_≡_}
+use mathlib.Core.Logic.{_≢_}
+use mathlib.Core.Bool.{Bool, true}
+use lib.Dec.{eqb}
+
+-- how many bits a mask has
+abbrev pub width : ℕ
+width = 32
+
+-- bit k of the mask m
+abbrev pub has : ℕ → ℕ → Bool
+has m k = eqb (m / 2 ^ k % 2) 1
+
+-- the mask names a missing core, one at or above the count
+pub record NamesMissing (count m : ℕ) : Type 0 where
+  pub core : ℕ
+  pub missing : count ≤ core
+  pub named : has m core ≡ true
+
+pub record LegalMask (count m : ℕ) : Type 0 where
+  pub not-empty : m ≢ 0
+  pub none-missing : (k : ℕ) → has m k ≡ true → k < count

@@ -1,0 +1,29 @@
+// Sets of cores as masks: bit k for core k.
+ghost use mathlib.Core.Path.{_≡_};
+ghost use Rattle.laws.specs.Decides.{Decides};
+ghost use Rattle.masks.specs.Masks.{has, NamesMissing};
+
+// The bits of a mask, and so the most cores that a set can name.
+pub const WIDTH: usize = 32;
+
+// Whether the mask has the core.
+pub fn has(mask: u32, core: usize) -> bool
+    ensures { λ r. ⌜ r ≡ has mask core ⌝ }
+{
+    if core < WIDTH {
+        (mask >> core) % 2 == 1
+    } else {
+        false
+    }
+}
+
+// Whether the mask names a core at or above the count.
+pub fn names_missing(mask: u32, count: u8) -> bool
+    ensures { λ r. ⌜ Decides (NamesMissing count mask) r ⌝ }
+{
+    if (count as usize) < WIDTH {
+        (mask >> count) != 0
+    } else {
+        false
+    }
+}
