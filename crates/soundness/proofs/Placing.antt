@@ -1,0 +1,79 @@
+-- First places: how a table of them grows from the list's end to its start, and what a table tells of one place.
+use Prim.Native.Nat.{ℕ, _+_, _-_, _≤_, _<_}
+use mathlib.Core.Path.{_≡_, sym, _∙_, subst}
+use mathlib.Core.Logic.{_≢_, _⊎_, inl, inr}
+use mathlib.Core.List.{List}
+use native.Mathlib.Decide.{ℕ-discrete, decLt}
+use native.Mathlib.Omega.{arith}
+use lib.ListN.{length, getD, set, replicate, length-set, length-replicate, getD-replicate}
+use lib.Seq.{getD-set-same, getD-set-other}
+use Rattle.dispatcher.specs.Limits.{slotLimit, none}
+use Rattle.soundness.specs.Places.{FirstAt, NowhereAt, First, FirstPlaces}
+
+-- ---- the table
+
+-- out has the first place of each slot among the places of l from i on
+pub record Marked (l : List ℕ) (i : ℕ) (out : List ℕ) : Type 0 where
+  pub long : length out ≡ slotLimit
+  pub each : (s : ℕ) → s < slotLimit → First (λ j. getD l j none) i (length l) s (getD out s 0)
+
+pub marked-none : (l : List ℕ) → Marked l (length l) (replicate slotLimit none)
+marked-none l = record {
+  long = length-replicate slotLimit none;
+  each = λ s h. inr (record { mark = getD-replicate slotLimit s none 0 h; nowhere = λ j a b. absurd (omega arith) });
+}
+
+earlier : {at : ℕ → ℕ} (i : ℕ) {n s p : ℕ} → 0 < i → at (i - 1) ≢ s → First at i n s p → First at (i - 1) n s p
+earlier {at} i {n} {s} {p} h other (inl f) = inl (record { from = omega (arith, f .from); below = f .below; holds = f .holds; first = λ j a b. go j a b (ℕ-discrete j (i - 1)) })
+  where
+    go : (j : ℕ) → i - 1 ≤ j → j < p → Dec (j ≡ i - 1) → at j ≢ s
+    go j a b (yes e) = rw e other
+    go j a b (no e) = f .first j (omega arith) b
+earlier {at} i {n} {s} {p} h other (inr f) = inr (record { mark = f .mark; nowhere = λ j a b. go j a b (ℕ-discrete j (i - 1)) })
+  where
+    go : (j : ℕ) → i - 1 ≤ j → j < n → Dec (j ≡ i - 1) → at j ≢ s
+    go j a b (yes e) = rw e other
+    go j a b (no e) = f .nowhere j (omega arith) b
+
+module _ {l : List ℕ} {i : ℕ} {out : List ℕ} {v : ℕ} (0<i : 0 < i) (within : i ≤ length l) (m : Marked l i out) (here : getD l (i - 1) none ≡ v) where
+  pub marked-slot : v < slotLimit → Marked l (i - 1) (set out v (i - 1))
+  marked-slot small = record { long = length-set out v (i - 1) ∙ m .long; each = λ s h. go s h (ℕ-discrete s v) }
+    where
+      go : (s : ℕ) → s < slotLimit → Dec (s ≡ v) → First (λ j. getD l j none) (i - 1) (length l) s (getD (set out v (i - 1)) s 0)
+      go s h (yes e) = rw (e, getD-set-same out v (i - 1) 0 (rw (m .long) small)) (inl (record { from = omega arith; below = omega arith; holds = here; first = λ j a b. absurd (omega arith) }))
+      go s h (no e) = rw (getD-set-other out v s (i - 1) 0 e) (earlier i 0<i (λ q. e (sym q ∙ here)) (m .each s h))
+
+  pub marked-other : slotLimit ≤ v → Marked l (i - 1) out
+  marked-other large = record { long = m .long; each = λ s h. earlier i 0<i (λ q. omega (arith, q, here)) (m .each s h) }
+
+pub marked-all : {l : List ℕ} {i : ℕ} {out : List ℕ} → i ≤ 0 → Marked l i out → FirstPlaces l out
+marked-all {l} {i} {out} z m = record { long = m .long; each = λ s h. subst (λ (a : ℕ). First (λ j. getD l j none) a (length l) s (getD out s 0)) start (m .each s h) }
+  where
+    start : i ≡ 0
+    start = omega arith
+
+-- ---- one place k that holds s, with the first place p of s
+
+module _ {at : ℕ → ℕ} {n s p k : ℕ} (small : n ≤ none) (below : k < n) (holds : at k ≡ s) where
+  -- p is k where no place before k holds what k holds, and only there
+  pub first-here : First at 0 n s p → p ≡ k → (j : ℕ) → j < k → at j ≢ at k
+  first-here (inl f) e j l q = f .first j (omega arith) (omega arith) (q ∙ holds)
+  first-here (inr f) e j l q = absurd (omega (arith, f .mark))
+
+  pub here-first : First at 0 n s p → ((j : ℕ) → j < k → at j ≢ at k) → p ≡ k
+  here-first (inr f) alone = absurd (f .nowhere k (omega arith) below holds)
+  here-first (inl f) alone = go (decLt p k) (decLt k p)
+    where
+      go : Dec (p < k) → Dec (k < p) → p ≡ k
+      go (yes l) d = absurd (alone p l (f .holds ∙ sym holds))
+      go (no l) (yes m) = absurd (f .first k (omega arith) m holds)
+      go (no l) (no m) = omega arith
+
+-- p is the mark where no place holds s, and only there
+pub first-stands : {at : ℕ → ℕ} {n s p : ℕ} → First at 0 n s p → p ≢ none → FirstAt at 0 n s p
+first-stands (inl f) h = f
+first-stands (inr f) h = absurd (h (f .mark))
+
+pub stands-first : {at : ℕ → ℕ} {n s p j : ℕ} → n ≤ none → First at 0 n s p → j < n → at j ≡ s → p ≢ none
+stands-first small (inl f) l q e = omega (arith, f .below, e)
+stands-first {j} small (inr f) l q e = f .nowhere j (omega arith) l q

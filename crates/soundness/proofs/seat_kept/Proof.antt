@@ -1,0 +1,23 @@
+use mathlib.Core.Path.{sym, _∙_}
+use Rattle.laws.proofs.Deciding.{clash, decides-false}
+use borrow.Author.Needs.{needs}
+use Rattle.soundness.proofs.seat_kept.Statement.{statement}
+use Rattle.soundness.proofs.seat_kept.Tie as tie
+
+returns : tie.Need-returns
+returns c = decides-false (λ h. h .0 (c .if1 .taken))
+
+returns-2 : tie.Need-returns-2
+returns-2 c = decides-false (λ h. c .if2 .taken (h .1))
+
+has-requires : tie.Need-has-requires
+has-requires c κs = search needs
+
+returns-3 : tie.Need-returns-3
+returns-3 c = record {
+  yes = λ y. (c .before .before .if1 .left, c .before .if2 .left, sym (c .has .ensures) ∙ y);
+  no = λ n h. clash (h .2) (sym (c .has .ensures) ∙ n);
+}
+
+pub seat-kept-spec : {M : Type 1} → statement M
+seat-kept-spec = tie.close (tie.spec returns returns-2 has-requires returns-3)
