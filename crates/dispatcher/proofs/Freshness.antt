@@ -6,11 +6,11 @@ use mathlib.Core.Bool.{Bool, true, false}
 use mathlib.Core.List.{[], _∷_}
 use native.Mathlib.Decide.{ℕ-discrete, decLe}
 use native.Mathlib.Omega.{arith}
-use lib.ListN.{getD-replicate}
+use lib.ListN.{length-replicate, getD-replicate}
 use Rattle.laws.specs.Decides.{Decides}
 use Rattle.laws.proofs.Deciding.{decides-not}
 use Rattle.dispatcher.specs.Limits.{coreLimit, slotLimit, none, LegalCount}
-use Rattle.dispatcher.specs.Slots.{noTask}
+use Rattle.dispatcher.specs.Slots.{noTask, Shaped}
 use Rattle.dispatcher.specs.Sound.{Sound}
 use Rattle.dispatcher.specs.Answers.{numberOf}
 use Rattle.dispatcher.specs.Reports.{stillOf}
@@ -46,6 +46,16 @@ empty-sound {n} l = record {
   missing = λ c h m. getD-replicate coreLimit c none none h;
   seats = λ c h o. absurd (o (getD-replicate coreLimit c none none h));
 }
+
+pub empty-shaped : (n : ℕ) → Shaped (emptyOf n)
+empty-shaped n = record { tasks = length-replicate slotLimit noTask; order = length-replicate slotLimit none; seats = length-replicate coreLimit none }
+
+pub freshly-shaped : {cores : ℕ} {r : Outcome} → Freshly cores r → Shaped (r .dispatcher)
+freshly-shaped {cores} {r} f = go (ℕ-discrete (numberOf (r .report .answer)) 0)
+  where
+    go : Dec (numberOf (r .report .answer) ≡ 0) → Shaped (r .dispatcher)
+    go (yes z) = rw (f .done z) (empty-shaped cores)
+    go (no z) = rw (f .refused z) (empty-shaped 1)
 
 pub freshly-sound : {cores : ℕ} {r : Outcome} → Freshly cores r → Sound (r .dispatcher)
 freshly-sound {cores} {r} f = go (ℕ-discrete (numberOf (r .report .answer)) 0)

@@ -56,7 +56,7 @@ answer-same p q = number-same (answers-same p q)
 
 -- ---- fresh
 
-outcome-same : {r q : Outcome} → r .report ≡ q .report → r .dispatcher ≡ q .dispatcher → r ≡ q
+pub outcome-same : {r q : Outcome} → r .report ≡ q .report → r .dispatcher ≡ q .dispatcher → r ≡ q
 outcome-same p q = λ i. record { report = p i; dispatcher = q i }
 
 pub freshly-same : {cores : ℕ} {r q : Outcome} → Freshly cores r → Freshly cores q → r ≡ q

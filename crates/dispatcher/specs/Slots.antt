@@ -1,8 +1,8 @@
 -- What stands where in a dispatcher.
 use Prim.Native.Nat.{ℕ, _<_}
 use mathlib.Core.Path.{_≡_}
-use lib.ListN.{getD}
-use Rattle.dispatcher.specs.Limits.{slotLimit, none}
+use lib.ListN.{length, getD}
+use Rattle.dispatcher.specs.Limits.{coreLimit, slotLimit, none}
 use Rattle.dispatcher.specs.declared.Task.{Task}
 use Rattle.dispatcher.specs.declared.Dispatcher.{Dispatcher}
 
@@ -32,3 +32,9 @@ pub record Ready (d : Dispatcher) (s : ℕ) : Type 0 where
   pub place : ℕ
   pub within : place < slotLimit
   pub stands : orderAt d place ≡ s
+
+-- the lengths of the arrays: so it is with every dispatcher that the machine holds
+pub record Shaped (d : Dispatcher) : Type 0 where
+  pub tasks : length (d .tasks) ≡ slotLimit
+  pub order : length (d .order) ≡ slotLimit
+  pub seats : length (d .seats) ≡ coreLimit

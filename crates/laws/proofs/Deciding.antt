@@ -1,8 +1,9 @@
 -- What decides a claim: one test only, up to its value; tests of numbers; a test turned round, and two tests joined.
-use Prim.Native.Nat.{ℕ, _≤_, _<_}
-use mathlib.Core.Path.{_≡_, refl, sym, _∙_}
+use Prim.Native.Nat.{ℕ, zero, suc, _≤_, _<_}
+use mathlib.Core.Path.{_≡_, refl, sym, _∙_, subst}
 use mathlib.Core.Logic.{_⊎_, inl, inr}
-use mathlib.Core.Bool.{Bool, true, false, not, _&&_, true≢false}
+use mathlib.Core.Bool.{Bool, true, false, not, _&&_, _||_, true≢false}
+use native.Mathlib.Decide.{ℕ-discrete}
 use native.Mathlib.Omega.{arith}
 use lib.Dec.{eqb, ltb, leb}
 use borrow.Author.Tests.{eqb-true, eqb-false, ltb-true, ltb-false, leb-true, leb-false}
@@ -49,3 +50,21 @@ decides-lt a b = record { yes = ltb-true a b; no = λ f l. let g = ltb-false a b
 
 pub decides-le : (a b : ℕ) → Decides (a ≤ b) (leb a b)
 decides-le a b = record { yes = leb-true a b; no = λ f l. let g = leb-false a b f in omega arith }
+
+-- whether a test is true of some number below n
+unfoldable pub anyBelow : (ℕ → Bool) → ℕ → Bool
+anyBelow f zero = false
+anyBelow f (suc n) = let rest = anyBelow f n in f n || rest
+
+pub decides-any : {P : ℕ → Type 0} {f : ℕ → Bool} (n : ℕ) → ((k : ℕ) → k < n → Decides (P k) (f k)) → Decides ((k : ℕ) × (k < n) × P k) (anyBelow f n)
+unfolding anyBelow
+decides-any zero h = decides-false (λ x. omega (arith, x .1))
+decides-any {P} {f} (suc n) h = go (cases (f n)) (decides-any n (λ k l. h k (omega arith)))
+  where
+    go : (f n ≡ true) ⊎ (f n ≡ false) → Decides ((k : ℕ) × (k < n) × P k) (anyBelow f n) → Decides ((k : ℕ) × (k < suc n) × P k) (f n || anyBelow f n)
+    go (inl y) d = rw y (decides-true (n, omega arith, h n (omega arith) .yes y))
+    go (inr z) d = rw z (decides-by (λ x. (x .0, omega (arith, x .1), x .2)) (λ x. at x (ℕ-discrete (x .0) n)) d)
+      where
+        at : (x : (k : ℕ) × (k < suc n) × P k) → Dec (x .0 ≡ n) → (k : ℕ) × (k < n) × P k
+        at x (yes e) = absurd (h n (omega arith) .no z (subst P e (x .2)))
+        at x (no e) = (x .0, omega (arith, x .1), x .2)

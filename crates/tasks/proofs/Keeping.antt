@@ -1,0 +1,110 @@
+-- Create and delete keep a dispatcher sound; a slot that was created is not ready.
+use Prim.Native.Nat.{ℕ, _≤_, _<_}
+use mathlib.Core.Path.{_≡_, refl, _∙_, subst}
+use mathlib.Core.Logic.{_≢_, inl, inr}
+use native.Mathlib.Decide.{ℕ-discrete}
+use native.Mathlib.Omega.{arith}
+use lib.ListN.{length-set}
+use lib.Seq.{getD-set-same, getD-set-other}
+use Rattle.masks.proofs.Bits.{legal-mask}
+use Rattle.dispatcher.specs.Limits.{slotLimit, none, greatestPriority}
+use Rattle.dispatcher.specs.Slots.{noTask, taskAt, orderAt, seatAt, Used, Ready, Shaped}
+use Rattle.dispatcher.specs.Sound.{LegalTask, Entered, Seated, Sound}
+use Rattle.dispatcher.specs.Answers.{numberOf}
+use Rattle.dispatcher.specs.declared.Task.{Task}
+use Rattle.dispatcher.specs.declared.Dispatcher.{Dispatcher}
+use Rattle.dispatcher.specs.declared.Outcome.{Outcome}
+use Rattle.dispatcher.proofs.Calling.{none-applies, slot-below}
+use Rattle.tasks.specs.Table.{withTask}
+use Rattle.tasks.specs.Create.{Creates}
+use Rattle.tasks.specs.Delete.{Deletes}
+
+ready-real : {d : Dispatcher} {s : ℕ} → (r : Ready d s) → orderAt d (r .place) ≢ none
+ready-real r e = omega (arith, r .slot, r .stands, e)
+
+-- a ready slot is used
+ready-used : {d : Dispatcher} {s : ℕ} → Sound d → Ready d s → Used (taskAt d s)
+ready-used {d} S r = subst (λ (v : ℕ). Used (taskAt d v)) (r .stands) (S .order (r .place) (r .within) (ready-real r) .used)
+
+with-task-shaped : {d : Dispatcher} (slot : ℕ) (t : Task) → Shaped d → Shaped (withTask d slot t)
+with-task-shaped {d} slot t L = record { tasks = length-set (d .tasks) slot t ∙ L .tasks; order = L .order; seats = L .seats }
+
+-- a slot that is not ready gets another task, none or a legal one
+module _ {d : Dispatcher} {slot : ℕ} {t : Task} (L : Shaped d) (S : Sound d) (below : slot < slotLimit) (off : Ready d slot → ⊥) (legal : Used t → LegalTask (d .cores) t) where
+  here : taskAt (withTask d slot t) slot ≡ t
+  here = getD-set-same (d .tasks) slot t noTask (rw (L .tasks) below)
+
+  other : (s : ℕ) → s ≢ slot → taskAt (withTask d slot t) s ≡ taskAt d s
+  other s n = getD-set-other (d .tasks) slot s t noTask n
+
+  kept-slot : (s : ℕ) → s < slotLimit → Dec (s ≡ slot) → Used (taskAt (withTask d slot t) s) → LegalTask (d .cores) (taskAt (withTask d slot t) s)
+  kept-slot s l (yes e) = rw (e, here) legal
+  kept-slot s l (no n) = rw (other s n) (S .slots s l)
+
+  kept-place : (k : ℕ) → k < slotLimit → Entered d k → Entered (withTask d slot t) k
+  kept-place k l e = record { slot = e .slot; used = rw (other (orderAt d k) moved) (e .used); not-twice = e .not-twice; no-gap = e .no-gap }
+    where
+      moved : orderAt d k ≢ slot
+      moved q = off (record { slot = below; place = k; within = l; stands = q })
+
+  kept-seat : (c : ℕ) → Seated d c → Seated (withTask d slot t) c
+  kept-seat c s = record { ready = record { slot = s .ready .slot; place = s .ready .place; within = s .ready .within; stands = s .ready .stands }; once = s .once; allowed = rw (other (seatAt d c) moved) (s .allowed) }
+    where
+      moved : seatAt d c ≢ slot
+      moved q = off (subst (Ready d) q (s .ready))
+
+  with-task-sound : Sound (withTask d slot t)
+  with-task-sound = record {
+    count = S .count;
+    slots = λ s l. kept-slot s l (ℕ-discrete s slot);
+    order = λ k l o. kept-place k l (S .order k l o);
+    missing = S .missing;
+    seats = λ c l o. kept-seat c (S .seats c l o);
+  }
+
+-- ---- create
+
+module _ {d : Dispatcher} {slot priority mask : ℕ} {r : Outcome} (S : Sound d) (C : Creates d slot priority mask r) (z : numberOf (r .report .answer) ≡ 0) where
+  -- the slot was empty, so it was not ready
+  create-off : Ready d slot → ⊥
+  create-off q = none-applies (C .answer) z 4 (inr (inr (inl (refl, ready-used S q))))
+
+  create-legal : priority ≤ greatestPriority → LegalTask (d .cores) (record { priority = priority; mask = mask })
+  create-legal byte = record {
+    priority = (positive (λ e. none-applies (C .answer) z 6 (inr (inr (inr (inl (refl, e)))))), byte);
+    mask = legal-mask (λ e. none-applies (C .answer) z 7 (inr (inr (inr (inr (inl (refl, e))))))) (λ m. none-applies (C .answer) z 8 (inr (inr (inr (inr (inr (inl (refl, m))))))));
+  }
+    where
+      positive : priority ≢ 0 → 1 ≤ priority
+      positive n = omega arith
+
+  pub created-not-ready : Ready (r .dispatcher) slot → ⊥
+  created-not-ready q = create-off (elsewhere (subst (λ (e : Dispatcher). Ready e slot) (C .done z .filled) q))
+    where
+      elsewhere : Ready (withTask d slot (record { priority = priority; mask = mask })) slot → Ready d slot
+      elsewhere e = record { slot = e .slot; place = e .place; within = e .within; stands = e .stands }
+
+pub create-keeps : {d : Dispatcher} {slot priority mask : ℕ} {r : Outcome} → Shaped d → Sound d → priority ≤ greatestPriority → Creates d slot priority mask r
+    → Shaped (r .dispatcher) × Sound (r .dispatcher)
+create-keeps {d} {r} L S byte C = go (ℕ-discrete (numberOf (r .report .answer)) 0)
+  where
+    go : Dec (numberOf (r .report .answer) ≡ 0) → Shaped (r .dispatcher) × Sound (r .dispatcher)
+    go (yes z) =
+        let below = slot-below (C .answer) z in
+        rw (C .done z .filled) (with-task-shaped _ _ L, with-task-sound L S below (create-off S C z) (λ _. create-legal S C z byte))
+    go (no z) = rw (C .kept z) (L, S)
+
+-- ---- delete
+
+pub delete-keeps : {d : Dispatcher} {slot : ℕ} {r : Outcome} → Shaped d → Sound d → Deletes d slot r → Shaped (r .dispatcher) × Sound (r .dispatcher)
+delete-keeps {d} {slot} {r} L S D = go (ℕ-discrete (numberOf (r .report .answer)) 0)
+  where
+    empty : Used noTask → LegalTask (d .cores) noTask
+    empty u = absurd (u (refl, refl))
+
+    go : Dec (numberOf (r .report .answer) ≡ 0) → Shaped (r .dispatcher) × Sound (r .dispatcher)
+    go (yes z) =
+        let below = slot-below (D .answer) z in
+        let off : Ready d slot → ⊥ = λ q. none-applies (D .answer) z 11 (inr (inr (inr (inl (refl, q))))) in
+        rw (D .done z .emptied) (with-task-shaped _ _ L, with-task-sound L S below off empty)
+    go (no z) = rw (D .kept z) (L, S)

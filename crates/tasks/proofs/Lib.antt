@@ -1,0 +1,3 @@
+pub mod Model
+pub mod Same
+pub mod Keeping

@@ -1,0 +1,121 @@
+-- What create and delete do, as functions that compute, over what the test of soundness says; and that they meet the promises.
+use Prim.Native.Nat.{ℕ, _/_, _^_, _<_}
+use mathlib.Core.Path.{_≡_, refl}
+use mathlib.Core.Bool.{Bool, true, false, not, cond}
+use mathlib.Core.List.{List, [], _∷_}
+use native.Mathlib.Decide.{ℕ-discrete}
+use native.Mathlib.Omega.{arith}
+use lib.Dec.{eqb, leb}
+use borrow.Author.Tests.{eq-eqb, ne-eqb}
+use Rattle.laws.specs.Decides.{Decides}
+use Rattle.laws.proofs.Deciding.{decides-not, decides-eq, decides-le}
+use Rattle.masks.proofs.Bits.{names-test}
+use Rattle.dispatcher.specs.Limits.{slotLimit}
+use Rattle.dispatcher.specs.Slots.{noTask, taskAt}
+use Rattle.dispatcher.specs.Sound.{Sound}
+use Rattle.dispatcher.specs.Answers.{numberOf, Refusal, Answers}
+use Rattle.dispatcher.specs.Reports.{stillOf}
+use Rattle.dispatcher.specs.Calls.{Calls}
+use Rattle.dispatcher.specs.declared.Answer.{Answer}
+use Rattle.dispatcher.specs.declared.Answer.the-variants.{NotSound, SlotAbove, SlotInUse, SlotEmpty, PriorityZero, MaskEmpty, MissingCore, StillReady}
+use Rattle.dispatcher.specs.declared.Dispatcher.{Dispatcher}
+use Rattle.dispatcher.specs.declared.Outcome.{Outcome}
+use Rattle.dispatcher.proofs.Judging.{Test, test, firstOf, judged}
+use Rattle.dispatcher.proofs.Testing.{emptyTest, empty-decides, used-decides, readyTest, ready-decides}
+use Rattle.dispatcher.proofs.Calling.{calls-refused, calls-done}
+use Rattle.tasks.specs.Table.{withTask}
+use Rattle.tasks.specs.Create.{createRefusals, Creates}
+use Rattle.tasks.specs.Delete.{deleteRefusals, Deletes}
+
+-- ---- the answers
+
+abbrev pub createTests : Bool → Dispatcher → ℕ → ℕ → ℕ → List Test
+createTests sound d slot priority mask =
+    test (not sound) NotSound ∷
+    test (leb slotLimit slot) SlotAbove ∷
+    test (not (emptyTest (taskAt d slot))) SlotInUse ∷
+    test (eqb priority 0) PriorityZero ∷
+    test (eqb mask 0) MaskEmpty ∷
+    test (not (eqb (mask / 2 ^ d .cores) 0)) MissingCore ∷ []
+
+pub create-answers : {b : Bool} (d : Dispatcher) (slot priority mask : ℕ) → Decides (Sound d) b
+    → Answers (createRefusals d slot priority mask) (numberOf (firstOf (createTests b d slot priority mask)))
+create-answers {b} d slot priority mask s =
+    judged 0 (createRefusals d slot priority mask) (createTests b d slot priority mask) (
+      decides-not s,
+      refl,
+      omega arith,
+      (
+        decides-le slotLimit slot,
+        refl,
+        omega arith,
+        (
+          used-decides (taskAt d slot),
+          refl,
+          omega arith,
+          (
+            decides-eq priority 0,
+            refl,
+            omega arith,
+            (
+              decides-eq mask 0,
+              refl,
+              omega arith,
+              (names-test (d .cores) mask, refl, omega arith, tt),
+            ),
+          ),
+        ),
+      ),
+    )
+
+abbrev pub deleteTests : Bool → Dispatcher → ℕ → List Test
+deleteTests sound d slot =
+    test (not sound) NotSound ∷
+    test (leb slotLimit slot) SlotAbove ∷
+    test (emptyTest (taskAt d slot)) SlotEmpty ∷
+    test (readyTest d slot) StillReady ∷ []
+
+pub delete-answers : {b : Bool} (d : Dispatcher) (slot : ℕ) → Decides (Sound d) b → Answers (deleteRefusals d slot) (numberOf (firstOf (deleteTests b d slot)))
+delete-answers {b} d slot s =
+    judged 0 (deleteRefusals d slot) (deleteTests b d slot) (
+      decides-not s,
+      refl,
+      omega arith,
+      (
+        decides-le slotLimit slot,
+        refl,
+        omega arith,
+        (
+          empty-decides (taskAt d slot),
+          refl,
+          omega arith,
+          (ready-decides d slot, refl, omega arith, tt),
+        ),
+      ),
+    )
+
+-- ---- the calls
+
+-- the dispatcher as it stood where the answer is a refusal, and the next one where it is done
+abbrev pub settled : Answer → Dispatcher → Dispatcher → Outcome
+settled a d next = record { report = stillOf a; dispatcher = cond (eqb (numberOf a) 0) next d }
+
+settles : {rs : List Refusal} {d : Dispatcher} (next : Dispatcher) {Does : Outcome → Type 0} (a : Answer) → Answers rs (numberOf a)
+    → Does (record { report = stillOf a; dispatcher = next }) → Calls rs d Does (settled a d next)
+settles {rs} {d} next {Does} a h does = go (ℕ-discrete (numberOf a) 0)
+  where
+    go : Dec (numberOf a ≡ 0) → Calls rs d Does (settled a d next)
+    go (yes z) = rw (eq-eqb (numberOf a) 0 z) (calls-done h z does)
+    go (no z) = rw (ne-eqb (numberOf a) 0 z) (calls-refused h z)
+
+abbrev pub createOf : Bool → Dispatcher → ℕ → ℕ → ℕ → Outcome
+createOf sound d slot priority mask = settled (firstOf (createTests sound d slot priority mask)) d (withTask d slot (record { priority = priority; mask = mask }))
+
+pub create-creates : {b : Bool} (d : Dispatcher) (slot priority mask : ℕ) → Decides (Sound d) b → Creates d slot priority mask (createOf b d slot priority mask)
+create-creates d slot priority mask s = settles _ _ (create-answers d slot priority mask s) (record { filled = refl; still = refl })
+
+abbrev pub deleteOf : Bool → Dispatcher → ℕ → Outcome
+deleteOf sound d slot = settled (firstOf (deleteTests sound d slot)) d (withTask d slot noTask)
+
+pub delete-deletes : {b : Bool} (d : Dispatcher) (slot : ℕ) → Decides (Sound d) b → Deletes d slot (deleteOf b d slot)
+delete-deletes d slot s = settles _ _ (delete-answers d slot s) (record { emptied = refl; still = refl })

@@ -1,0 +1,66 @@
+use mathlib.Core.Path.{_≡_, _∙_}
+use mathlib.Core.Bool.{true, false}
+use borrow.Author.Tests.{not-true, not-false, le-leb, lt-leb}
+use Rattle.laws.proofs.Deciding.{decides-same}
+use Rattle.dispatcher.proofs.Judging.{firstOf}
+use Rattle.dispatcher.proofs.Testing.{empty-is, ready-decides}
+use Rattle.tasks.proofs.Model.{delete-answers}
+use borrow.Author.Needs.{needs}
+use Rattle.tasks.proofs.delete_answer.Statement.{statement}
+use Rattle.tasks.proofs.delete_answer.Tie as tie
+
+unsound : (c : tie.Then1) → c .before .sound .result ≡ false
+unsound c = not-true _ (c .if1 .taken)
+
+sound : (c : tie.Else1) → c .before .sound .result ≡ true
+sound c = not-false _ (c .if1 .left)
+
+sound-requires : tie.Need-sound-requires
+sound-requires c κs = search needs
+
+returns : tie.Need-returns
+unfolding firstOf
+returns c = simp (unsound c) at (delete-answers (c .before .before .args .t1) (c .before .before .args .slot) (c .before .sound .ensures))
+
+returns-2 : tie.Need-returns-2
+unfolding firstOf
+returns-2 c = simp (sound (c .before), le-leb _ _ (c .if2 .taken)) at (delete-answers (c .before .before .before .args .t1) (c .before .before .before .args .slot) (c .before .before .sound .ensures))
+
+mul-t : tie.Need-mul-t
+mul-t c = search needs
+
+element-copy-out-t : tie.Need-element-copy-out-t
+element-copy-out-t c = search needs
+
+is-used-requires : tie.Need-is-used-requires
+is-used-requires c κs = search needs
+
+returns-3 : tie.Need-returns-3
+unfolding firstOf
+returns-3 c = simp (sound (c .before .before .before .before), lt-leb _ _ (c .before .before .before .if2 .left), empty-is (c .before .is-used .ensures) (c .if3 .taken)) at (delete-answers (c .before .before .before .before .before .before .args .t1) (c .before .before .before .before .before .before .args .slot) (c .before .before .before .before .before .sound .ensures))
+
+is-ready-requires : tie.Need-is-ready-requires
+is-ready-requires c κs = search needs
+
+returns-4 : tie.Need-returns-4
+unfolding firstOf
+returns-4 c = simp (sound (c .before .before .before .before .before .before), lt-leb _ _ (c .before .before .before .before .before .if2 .left), empty-is (c .before .before .before .is-used .ensures) (c .before .before .if3 .left), decides-same (ready-decides _ _) (c .before .is-ready .ensures) ∙ c .if4 .taken) at (delete-answers (c .before .before .before .before .before .before .before .before .args .t1) (c .before .before .before .before .before .before .before .before .args .slot) (c .before .before .before .before .before .before .before .sound .ensures))
+
+returns-5 : tie.Need-returns-5
+unfolding firstOf
+returns-5 c = simp (sound (c .before .before .before .before .before .before), lt-leb _ _ (c .before .before .before .before .before .if2 .left), empty-is (c .before .before .before .is-used .ensures) (c .before .before .if3 .left), decides-same (ready-decides _ _) (c .before .is-ready .ensures) ∙ c .if4 .left) at (delete-answers (c .before .before .before .before .before .before .before .before .args .t1) (c .before .before .before .before .before .before .before .before .args .slot) (c .before .before .before .before .before .before .before .sound .ensures))
+
+pub delete-answer-spec : {M : Type 1} → statement M
+delete-answer-spec =
+    tie.close
+    (tie.spec
+    sound-requires
+    returns
+    returns-2
+    mul-t
+    element-copy-out-t
+    is-used-requires
+    returns-3
+    is-ready-requires
+    returns-4
+    returns-5)

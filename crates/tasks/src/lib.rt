@@ -1,0 +1,107 @@
+// Create and delete by value: a slot is filled, not ready, or emptied.
+ghost use mathlib.Core.Path.{_≡_};
+ghost use Prim.Native.Nat.{_<_};
+ghost use Rattle.dispatcher.specs.Limits.{slotLimit};
+ghost use Rattle.dispatcher.specs.Answers.{numberOf, Answers};
+ghost use Rattle.tasks.specs.Table.{withTask};
+ghost use Rattle.tasks.specs.Create.{createRefusals, Creates};
+ghost use Rattle.tasks.specs.Delete.{deleteRefusals, Deletes};
+use dispatcher::Answer;
+use dispatcher::Dispatcher;
+use dispatcher::Outcome;
+use dispatcher::Report;
+use dispatcher::Task;
+
+fn create_answer(d: Dispatcher, slot: u16, priority: u8, mask: u32) -> Answer
+    ensures { λ r. ⌜ Answers (createRefusals d slot priority mask) (numberOf r) ⌝ }
+{
+    if !soundness::sound(d) {
+        return Answer::NotSound;
+    }
+    let at = slot as usize;
+    if Dispatcher::SLOTS <= at {
+        return Answer::SlotAbove;
+    }
+    let t = d.tasks[at];
+    if t.is_used() {
+        return Answer::SlotInUse;
+    }
+    if priority == 0 {
+        return Answer::PriorityZero;
+    }
+    if mask == 0 {
+        return Answer::MaskEmpty;
+    }
+    let cores = d.cores;
+    if masks::names_missing(mask, cores) {
+        return Answer::MissingCore;
+    }
+    Answer::Done
+}
+
+fn delete_answer(d: Dispatcher, slot: u16) -> Answer
+    ensures { λ r. ⌜ Answers (deleteRefusals d slot) (numberOf r) ⌝ }
+{
+    if !soundness::sound(d) {
+        return Answer::NotSound;
+    }
+    let at = slot as usize;
+    if Dispatcher::SLOTS <= at {
+        return Answer::SlotAbove;
+    }
+    let t = d.tasks[at];
+    if !t.is_used() {
+        return Answer::SlotEmpty;
+    }
+    if d.is_ready(slot) {
+        return Answer::StillReady;
+    }
+    Answer::Done
+}
+
+fn with_task(d: Dispatcher, slot: u16, t: Task) -> Dispatcher
+    requires { ⌜ slot < slotLimit ⌝ }
+    ensures { λ r. ⌜ r ≡ withTask d slot t ⌝ }
+{
+    let mut next = d;
+    let at = slot as usize;
+    next.tasks[at] = t;
+    next
+}
+
+// Fills an empty slot.
+pub fn create(d: Dispatcher, slot: u16, priority: u8, mask: u32) -> Outcome
+    ensures { λ r. ⌜ Creates d slot priority mask r ⌝ }
+{
+    let answer = create_answer(d, slot, priority, mask);
+    let report = Report::still(answer);
+    if answer.number() != 0 {
+        return Outcome {
+            report,
+            dispatcher: d,
+        };
+    }
+    let t = Task { priority, mask };
+    let dispatcher = with_task(d, slot, t);
+    Outcome { report, dispatcher }
+}
+
+// Empties the slot of a task that is not ready.
+pub fn delete(d: Dispatcher, slot: u16) -> Outcome
+    ensures { λ r. ⌜ Deletes d slot r ⌝ }
+{
+    let answer = delete_answer(d, slot);
+    let report = Report::still(answer);
+    if answer.number() != 0 {
+        return Outcome {
+            report,
+            dispatcher: d,
+        };
+    }
+    let t = Task {
+        priority: 0,
+        mask: 0,
+    };
+    let dispatcher = with_task(d, slot, t);
+    Outcome { report, dispatcher }
+}
