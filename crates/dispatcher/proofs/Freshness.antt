@@ -1,14 +1,14 @@
 -- What fresh returns, as a function of the test of its count; and that it is sound, so usable, refused or not.
-use Prim.Native.Nat.{ℕ, _≤_, _<_}
+use Prim.Native.Nat.{ℕ}
 use mathlib.Core.Path.{_≡_, refl}
-use mathlib.Core.Logic.{inl, Dec·and}
+use mathlib.Core.Logic.{_⊎_, inl, inr}
 use mathlib.Core.Bool.{Bool, true, false}
 use mathlib.Core.List.{[], _∷_}
-use native.Mathlib.Decide.{ℕ-discrete, decLe}
+use native.Mathlib.Decide.{ℕ-discrete}
 use native.Mathlib.Omega.{arith}
 use lib.ListN.{length-replicate, getD-replicate}
 use Rattle.laws.specs.Decides.{Decides}
-use Rattle.laws.proofs.Deciding.{decides-not}
+use Rattle.laws.proofs.Deciding.{cases, decides-not}
 use Rattle.dispatcher.specs.Limits.{coreLimit, slotLimit, none, LegalCount}
 use Rattle.dispatcher.specs.Slots.{noTask, Shaped}
 use Rattle.dispatcher.specs.Sound.{Sound}
@@ -17,7 +17,9 @@ use Rattle.dispatcher.specs.Reports.{stillOf}
 use Rattle.dispatcher.specs.Fresh.{emptyOf, freshRefusals, Freshly}
 use Rattle.dispatcher.specs.declared.Answer.the-variants.{Done, CoreCount}
 use Rattle.dispatcher.specs.declared.Outcome.{Outcome}
-use Rattle.dispatcher.proofs.Judging.{test, firstOf, Judges, judged}
+use Rattle.dispatcher.proofs.Judging.{test, firstOf, judged}
+use Rattle.dispatcher.proofs.Testing.{countTest, count-decides}
+use Rattle.dispatcher.proofs.Promises.{none-applies}
 
 abbrev pub freshOf : Bool → ℕ → Outcome
 freshOf true n = record { report = stillOf Done; dispatcher = emptyOf n }
@@ -50,20 +52,13 @@ empty-sound {n} l = record {
 pub empty-shaped : (n : ℕ) → Shaped (emptyOf n)
 empty-shaped n = record { tasks = length-replicate slotLimit noTask; order = length-replicate slotLimit none; seats = length-replicate coreLimit none }
 
-pub freshly-shaped : {cores : ℕ} {r : Outcome} → Freshly cores r → Shaped (r .dispatcher)
-freshly-shaped {cores} {r} f = go (ℕ-discrete (numberOf (r .report .answer)) 0)
+pub freshly-keeps : {cores : ℕ} {r : Outcome} → Freshly cores r → Shaped (r .dispatcher) × Sound (r .dispatcher)
+freshly-keeps {cores} {r} f = go (ℕ-discrete (numberOf (r .report .answer)) 0)
   where
-    go : Dec (numberOf (r .report .answer) ≡ 0) → Shaped (r .dispatcher)
-    go (yes z) = rw (f .done z) (empty-shaped cores)
-    go (no z) = rw (f .refused z) (empty-shaped 1)
+    legal : numberOf (r .report .answer) ≡ 0 → (countTest cores ≡ true) ⊎ (countTest cores ≡ false) → LegalCount cores
+    legal z (inl y) = count-decides cores .yes y
+    legal z (inr n) = absurd (none-applies (f .answer) z 2 (inl (refl, count-decides cores .no n)))
 
-pub freshly-sound : {cores : ℕ} {r : Outcome} → Freshly cores r → Sound (r .dispatcher)
-freshly-sound {cores} {r} f = go (ℕ-discrete (numberOf (r .report .answer)) 0)
-  where
-    legal : numberOf (r .report .answer) ≡ 0 → Dec (LegalCount cores) → LegalCount cores
-    legal z (yes l) = l
-    legal z (no l) = let p = f .answer .lowest 2 (inl (refl, l)) in absurd (omega (arith, p .0))
-
-    go : Dec (numberOf (r .report .answer) ≡ 0) → Sound (r .dispatcher)
-    go (yes z) = rw (f .done z) (empty-sound (legal z (Dec·and (decLe 1 cores) (decLe cores coreLimit))))
-    go (no z) = rw (f .refused z) (empty-sound (omega arith))
+    go : Dec (numberOf (r .report .answer) ≡ 0) → Shaped (r .dispatcher) × Sound (r .dispatcher)
+    go (yes z) = rw (f .done z) (empty-shaped cores, empty-sound (legal z (cases (countTest cores))))
+    go (no z) = rw (f .refused z) (empty-shaped 1, empty-sound (omega arith))

@@ -1,8 +1,8 @@
 -- The lowest number that applies, found by tests: the first of a list of tests that is true names the answer.
 use Prim.Native.Nat.{ℕ, _≤_, _<_}
 use mathlib.Core.Path.{_≡_, refl}
-use mathlib.Core.Logic.{_⊎_, inl, inr, _≢_}
-use mathlib.Core.Bool.{Bool, true, false}
+use mathlib.Core.Logic.{_⊎_, inl, inr}
+use mathlib.Core.Bool.{Bool, true, false, cond}
 use mathlib.Core.List.{List, [], _∷_}
 use native.Mathlib.Omega.{arith}
 use Rattle.laws.specs.Decides.{Decides}
@@ -18,13 +18,9 @@ pub record Test : Type 0 where
 abbrev pub test : Bool → Answer → Test
 test b a = record { found = b; gives = a }
 
-abbrev choose : Bool → Answer → Answer → Answer
-choose true a rest = a
-choose false a rest = rest
-
 unfoldable pub firstOf : List Test → Answer
 firstOf [] = Done
-firstOf (t ∷ ts) = let rest = firstOf ts in choose (t .found) (t .gives) rest
+firstOf (t ∷ ts) = let rest = firstOf ts in cond (t .found) (t .gives) rest
 
 -- the tests are those of the rows, in the rows' order, and the rows' numbers rise from above b
 abbrev pub Judges : ℕ → List Refusal → List Test → Type 0
@@ -61,6 +57,6 @@ judged b [] (t ∷ ts) j = absurd j
 judged b (r ∷ rs) [] j = absurd j
 judged b (r ∷ rs) (t ∷ ts) j = go (cases (t .found)) (judged (r .number) rs ts (j .3))
   where
-    go : (t .found ≡ true) ⊎ (t .found ≡ false) → Answers rs (numberOf (firstOf ts)) → Answers (r ∷ rs) (numberOf (choose (t .found) (t .gives) (firstOf ts)))
+    go : (t .found ≡ true) ⊎ (t .found ≡ false) → Answers rs (numberOf (firstOf ts)) → Answers (r ∷ rs) (numberOf (cond (t .found) (t .gives) (firstOf ts)))
     go (inl y) rest = rw (y, ← j .1) (taken (j .0 .yes y) (omega (arith, j .2)) (λ m a. applies-above (r .number) rs ts (j .3) a))
     go (inr n) rest = rw n (passed (j .0 .no n) rest)

@@ -1,6 +1,6 @@
 pub mod Judging
 pub mod Testing
-pub mod Calling
+pub mod Promises
 pub mod Same
 pub mod Freshness
 pub mod Reading

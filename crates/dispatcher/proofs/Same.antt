@@ -1,5 +1,5 @@
 -- Any two results that a promise allows are the same.
-use Prim.Native.Nat.{ℕ, _<_}
+use Prim.Native.Nat.{ℕ}
 use mathlib.Core.Path.{_≡_, refl, sym, ap, _∙_}
 use mathlib.Core.Logic.{_≢_}
 use mathlib.Core.Bool.{cond}
@@ -9,11 +9,10 @@ use native.Mathlib.Omega.{arith}
 use lib.Dec.{eqb}
 use Rattle.dispatcher.specs.Answers.{numberOf, Refusal, Answers}
 use Rattle.dispatcher.specs.Reports.{stillOf}
-use Rattle.dispatcher.specs.Calls.{Calls}
-use Rattle.dispatcher.specs.Fresh.{Freshly, freshRefusals}
+use Rattle.dispatcher.specs.Promise.{Promised}
+use Rattle.dispatcher.specs.Fresh.{Freshly}
 use Rattle.dispatcher.specs.declared.Answer.{Answer}
 use Rattle.dispatcher.specs.declared.Answer.the-variants.{Done, NotSound, CoreCount, SlotAbove, SlotInUse, SlotEmpty, PriorityZero, MaskEmpty, MissingCore, StillReady}
-use Rattle.dispatcher.specs.declared.Report.{Report}
 use Rattle.dispatcher.specs.declared.Dispatcher.{Dispatcher}
 use Rattle.dispatcher.specs.declared.Outcome.{Outcome}
 
@@ -71,9 +70,9 @@ freshly-same {cores} {r} {q} a b = outcome-same (a .still ∙ ap stillOf same �
 
 -- ---- a call on a dispatcher, where what it does when accepted allows one result
 
-pub calls-same : {rs : List Refusal} {d : Dispatcher} {Does : Outcome → Type 0} {r q : Outcome}
-    → (r .report .answer ≡ q .report .answer → Does r → Does q → r ≡ q) → Calls rs d Does r → Calls rs d Does q → r ≡ q
-calls-same {r} {q} done a b = go (ℕ-discrete (numberOf (r .report .answer)) 0)
+pub promised-same : {rs : List Refusal} {d : Dispatcher} {Does : Outcome → Type 0} {r q : Outcome}
+    → (r .report .answer ≡ q .report .answer → Does r → Does q → r ≡ q) → Promised rs d Does r → Promised rs d Does q → r ≡ q
+promised-same {r} {q} done a b = go (ℕ-discrete (numberOf (r .report .answer)) 0)
   where
     same : r .report .answer ≡ q .report .answer
     same = answer-same (a .answer) (b .answer)

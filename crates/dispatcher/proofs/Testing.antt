@@ -1,14 +1,20 @@
--- Tests that compute whether a slot is used, and whether it is ready.
-use Prim.Native.Nat.{ℕ, _<_}
+-- Tests that compute whether a core count is legal, a slot used, a slot ready.
+use Prim.Native.Nat.{ℕ}
 use mathlib.Core.Path.{_≡_, sym, ap, _∙_}
 use mathlib.Core.Bool.{Bool, not, _&&_, Bool·not-not}
-use lib.Dec.{eqb, ltb}
+use lib.Dec.{eqb, ltb, leb}
 use Rattle.laws.specs.Decides.{Decides}
-use Rattle.laws.proofs.Deciding.{decides-same, decides-by, decides-not, decides-and, decides-eq, decides-lt, anyBelow, decides-any}
-use Rattle.dispatcher.specs.Limits.{slotLimit}
+use Rattle.laws.proofs.Deciding.{decides-same, decides-by, decides-not, decides-and, decides-eq, decides-lt, decides-le, anyBelow, decides-any}
+use Rattle.dispatcher.specs.Limits.{coreLimit, slotLimit, LegalCount}
 use Rattle.dispatcher.specs.Slots.{orderAt, Empty, Used, Ready}
 use Rattle.dispatcher.specs.declared.Task.{Task}
 use Rattle.dispatcher.specs.declared.Dispatcher.{Dispatcher}
+
+abbrev pub countTest : ℕ → Bool
+countTest n = leb 1 n && leb n coreLimit
+
+pub count-decides : (n : ℕ) → Decides (LegalCount n) (countTest n)
+count-decides n = decides-and (decides-le 1 n) (decides-le n coreLimit)
 
 abbrev pub emptyTest : Task → Bool
 emptyTest t = eqb (t .priority) 0 && eqb (t .mask) 0

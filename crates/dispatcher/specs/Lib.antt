@@ -4,5 +4,5 @@ pub mod Sound
 pub mod Answers
 pub mod Refusals
 pub mod Reports
-pub mod Calls
+pub mod Promise
 pub mod Fresh

@@ -13,6 +13,12 @@ pub struct Task {
 }
 
 impl Task {
+    // What an empty slot holds.
+    pub const EMPTY: Task = Task {
+        priority: 0,
+        mask: 0,
+    };
+
     // A slot whose priority and mask are both 0 is empty.
     pub fn is_used(self) -> bool
         ensures { λ r. ⌜ Decides (Used self) r ⌝ }
@@ -121,11 +127,7 @@ impl Dispatcher {
     fn empty(cores: u8) -> Dispatcher
         ensures { λ r. ⌜ r ≡ emptyOf cores ⌝ }
     {
-        let task = Task {
-            priority: 0,
-            mask: 0,
-        };
-        let tasks = [task; Dispatcher::SLOTS];
+        let tasks = [Task::EMPTY; Dispatcher::SLOTS];
         let order = [Dispatcher::NONE; Dispatcher::SLOTS];
         let seats = [Dispatcher::NONE; Dispatcher::CORES];
         Dispatcher {

@@ -16,6 +16,10 @@ pub cases : (b : Bool) → (b ≡ true) ⊎ (b ≡ false)
 cases true = inl refl
 cases false = inr refl
 
+-- a promise that names the result allows one
+pub equal-same : {A : Type 0} {v r q : A} → r ≡ v → q ≡ v → r ≡ q
+equal-same p q = p ∙ sym q
+
 pub decides-same : {P : Type 0} {a b : Bool} → Decides P a → Decides P b → a ≡ b
 decides-same {a = true} {b = true} p q = refl
 decides-same {a = true} {b = false} p q = absurd (q .no refl (p .yes refl))

@@ -1,15 +1,14 @@
 -- The bits of a number at and above a place are those of the number shifted down to that place.
 use Prim.Native.Nat.{ℕ, zero, suc, _+_, _-_, _/_, _%_, _^_, _≤_, _<_}
-use mathlib.Core.Path.{_≡_, refl, sym, ap, _∙_}
+use mathlib.Core.Path.{_≡_, sym, ap, _∙_}
 use mathlib.Core.Logic.{_≢_}
-use mathlib.Core.Bool.{Bool, true, false, not}
+use mathlib.Core.Bool.{true, false, not}
 use native.Mathlib.Decide.{ℕ-discrete, decLt}
 use native.Mathlib.Nat.{pow-suc, zero-div, div-eq-of-lt}
-use native.Mathlib.Numerals.{one-add}
 use native.Mathlib.Omega.{arith}
 use lib.Dec.{eqb}
-use lib.Pow.{pow-mono, pow-lt, shr-shr}
-use borrow.Author.Tests.{eq-eqb, eqb-true}
+use lib.Pow.{pow-mono, shr-shr}
+use borrow.Author.Tests.{eq-eqb}
 use Rattle.laws.specs.Decides.{Decides}
 use Rattle.laws.proofs.Deciding.{clash, decides-by, decides-not, decides-eq}
 use Rattle.masks.specs.Masks.{has, NamesMissing, LegalMask}

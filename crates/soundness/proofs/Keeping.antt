@@ -1,17 +1,17 @@
 -- What the tests of one place of the wake order, and of one core, decide.
 use Prim.Native.Nat.{ℕ, _+_, _≤_, _<_}
-use mathlib.Core.Path.{_≡_, refl, sym, ap, _∙_, subst}
+use mathlib.Core.Path.{_≡_, sym, _∙_, subst}
 use mathlib.Core.Logic.{_≢_, _⊎_, inl, inr}
 use mathlib.Core.Bool.{Bool, true, false}
 use native.Mathlib.Decide.{ℕ-discrete}
 use native.Mathlib.Omega.{arith}
 use Rattle.laws.specs.Decides.{Decides}
-use Rattle.laws.specs.Lowest.{Lowest, Throughout}
-use Rattle.laws.proofs.Deciding.{cases, clash, decides-true, decides-false, decides-by}
+use Rattle.laws.specs.Lowest.{Throughout}
+use Rattle.laws.proofs.Deciding.{cases, decides-true, decides-false, decides-by}
 use Rattle.masks.specs.Masks.{has}
 use Rattle.dispatcher.specs.Limits.{coreLimit, slotLimit, none, LegalCount}
-use Rattle.dispatcher.specs.Slots.{taskAt, orderAt, seatAt, Used, Ready}
-use Rattle.dispatcher.specs.Sound.{Entered, PlaceKept, Seated, SeatKept}
+use Rattle.dispatcher.specs.Slots.{taskAt, orderAt, seatAt, Used}
+use Rattle.dispatcher.specs.Sound.{Entered, PlaceKept, SeatKept}
 use Rattle.dispatcher.specs.declared.Dispatcher.{Dispatcher}
 use Rattle.soundness.specs.Found.{isNothing, FindsCount, Finds}
 use Rattle.soundness.specs.Places.{First}
@@ -83,9 +83,9 @@ seat-idle d c e n = absurd (n e)
 
 -- ---- a search's answer
 
-pub count-decides : {n : ℕ} (f : Found) → FindsCount n f → Decides (LegalCount n) (isNothing f)
-count-decides (At k) h = decides-false (h .1)
-count-decides Nothing h = decides-true h
+pub counted-decides : {n : ℕ} (f : Found) → FindsCount n f → Decides (LegalCount n) (isNothing f)
+counted-decides (At k) h = decides-false (h .1)
+counted-decides Nothing h = decides-true h
 
 pub nothing-decides : {n : ℕ} {Kept : ℕ → Type 0} (f : Found) → Finds n Kept f → Decides (Throughout n Kept) (isNothing f)
 nothing-decides (At k) h = decides-false (λ t. h .fails (t k (h .below)))

@@ -1,14 +1,14 @@
 -- First places: how a table of them grows from the list's end to its start, and what a table tells of one place.
-use Prim.Native.Nat.{ℕ, _+_, _-_, _≤_, _<_}
+use Prim.Native.Nat.{ℕ, _-_, _≤_, _<_}
 use mathlib.Core.Path.{_≡_, sym, _∙_, subst}
-use mathlib.Core.Logic.{_≢_, _⊎_, inl, inr}
+use mathlib.Core.Logic.{_≢_, inl, inr}
 use mathlib.Core.List.{List}
 use native.Mathlib.Decide.{ℕ-discrete, decLt}
 use native.Mathlib.Omega.{arith}
 use lib.ListN.{length, getD, set, replicate, length-set, length-replicate, getD-replicate}
 use lib.Seq.{getD-set-same, getD-set-other}
 use Rattle.dispatcher.specs.Limits.{slotLimit, none}
-use Rattle.soundness.specs.Places.{FirstAt, NowhereAt, First, FirstPlaces}
+use Rattle.soundness.specs.Places.{FirstAt, First, FirstPlaces}
 
 -- ---- the table
 

@@ -134,8 +134,8 @@ fn seated_missing(d: Dispatcher) -> Found
 {
     let mut c = d.cores as usize;
     while c < Dispatcher::CORES {
-        let sits = d.seats[c];
-        if sits != Dispatcher::NONE {
+        let held = d.seats[c];
+        if held != Dispatcher::NONE {
             return Found::At(c);
         }
         c += 1;

@@ -14,7 +14,7 @@ use Rattle.dispatcher.specs.Answers.{numberOf}
 use Rattle.dispatcher.specs.declared.Task.{Task}
 use Rattle.dispatcher.specs.declared.Dispatcher.{Dispatcher}
 use Rattle.dispatcher.specs.declared.Outcome.{Outcome}
-use Rattle.dispatcher.proofs.Calling.{none-applies, slot-below}
+use Rattle.dispatcher.proofs.Promises.{none-applies, slot-below}
 use Rattle.tasks.specs.Table.{withTask}
 use Rattle.tasks.specs.Create.{Creates}
 use Rattle.tasks.specs.Delete.{Deletes}
@@ -79,7 +79,7 @@ module _ {d : Dispatcher} {slot priority mask : ℕ} {r : Outcome} (S : Sound d)
       positive n = omega arith
 
   pub created-not-ready : Ready (r .dispatcher) slot → ⊥
-  created-not-ready q = create-off (elsewhere (subst (λ (e : Dispatcher). Ready e slot) (C .done z .filled) q))
+  created-not-ready q = create-off (elsewhere (subst (λ (e : Dispatcher). Ready e slot) (C .done z .written) q))
     where
       elsewhere : Ready (withTask d slot (record { priority = priority; mask = mask })) slot → Ready d slot
       elsewhere e = record { slot = e .slot; place = e .place; within = e .within; stands = e .stands }
@@ -91,7 +91,7 @@ create-keeps {d} {r} L S byte C = go (ℕ-discrete (numberOf (r .report .answer)
     go : Dec (numberOf (r .report .answer) ≡ 0) → Shaped (r .dispatcher) × Sound (r .dispatcher)
     go (yes z) =
         let below = slot-below (C .answer) z in
-        rw (C .done z .filled) (with-task-shaped _ _ L, with-task-sound L S below (create-off S C z) (λ _. create-legal S C z byte))
+        rw (C .done z .written) (with-task-shaped _ _ L, with-task-sound L S below (create-off S C z) (λ _. create-legal S C z byte))
     go (no z) = rw (C .kept z) (L, S)
 
 -- ---- delete
@@ -106,5 +106,5 @@ delete-keeps {d} {slot} {r} L S D = go (ℕ-discrete (numberOf (r .report .answe
     go (yes z) =
         let below = slot-below (D .answer) z in
         let off : Ready d slot → ⊥ = λ q. none-applies (D .answer) z 11 (inr (inr (inr (inl (refl, q))))) in
-        rw (D .done z .emptied) (with-task-shaped _ _ L, with-task-sound L S below off empty)
+        rw (D .done z .written) (with-task-shaped _ _ L, with-task-sound L S below off empty)
     go (no z) = rw (D .kept z) (L, S)

@@ -1,7 +1,7 @@
 -- What create and delete do, as functions that compute, over what the test of soundness says; and that they meet the promises.
-use Prim.Native.Nat.{ℕ, _/_, _^_, _<_}
+use Prim.Native.Nat.{ℕ, _/_, _^_}
 use mathlib.Core.Path.{_≡_, refl}
-use mathlib.Core.Bool.{Bool, true, false, not, cond}
+use mathlib.Core.Bool.{Bool, not, cond}
 use mathlib.Core.List.{List, [], _∷_}
 use native.Mathlib.Decide.{ℕ-discrete}
 use native.Mathlib.Omega.{arith}
@@ -15,14 +15,14 @@ use Rattle.dispatcher.specs.Slots.{noTask, taskAt}
 use Rattle.dispatcher.specs.Sound.{Sound}
 use Rattle.dispatcher.specs.Answers.{numberOf, Refusal, Answers}
 use Rattle.dispatcher.specs.Reports.{stillOf}
-use Rattle.dispatcher.specs.Calls.{Calls}
+use Rattle.dispatcher.specs.Promise.{Promised}
 use Rattle.dispatcher.specs.declared.Answer.{Answer}
 use Rattle.dispatcher.specs.declared.Answer.the-variants.{NotSound, SlotAbove, SlotInUse, SlotEmpty, PriorityZero, MaskEmpty, MissingCore, StillReady}
 use Rattle.dispatcher.specs.declared.Dispatcher.{Dispatcher}
 use Rattle.dispatcher.specs.declared.Outcome.{Outcome}
 use Rattle.dispatcher.proofs.Judging.{Test, test, firstOf, judged}
 use Rattle.dispatcher.proofs.Testing.{emptyTest, empty-decides, used-decides, readyTest, ready-decides}
-use Rattle.dispatcher.proofs.Calling.{calls-refused, calls-done}
+use Rattle.dispatcher.proofs.Promises.{promised-refused, promised-done}
 use Rattle.tasks.specs.Table.{withTask}
 use Rattle.tasks.specs.Create.{createRefusals, Creates}
 use Rattle.tasks.specs.Delete.{deleteRefusals, Deletes}
@@ -101,21 +101,21 @@ abbrev pub settled : Answer → Dispatcher → Dispatcher → Outcome
 settled a d next = record { report = stillOf a; dispatcher = cond (eqb (numberOf a) 0) next d }
 
 settles : {rs : List Refusal} {d : Dispatcher} (next : Dispatcher) {Does : Outcome → Type 0} (a : Answer) → Answers rs (numberOf a)
-    → Does (record { report = stillOf a; dispatcher = next }) → Calls rs d Does (settled a d next)
+    → Does (record { report = stillOf a; dispatcher = next }) → Promised rs d Does (settled a d next)
 settles {rs} {d} next {Does} a h does = go (ℕ-discrete (numberOf a) 0)
   where
-    go : Dec (numberOf a ≡ 0) → Calls rs d Does (settled a d next)
-    go (yes z) = rw (eq-eqb (numberOf a) 0 z) (calls-done h z does)
-    go (no z) = rw (ne-eqb (numberOf a) 0 z) (calls-refused h z)
+    go : Dec (numberOf a ≡ 0) → Promised rs d Does (settled a d next)
+    go (yes z) = rw (eq-eqb (numberOf a) 0 z) (promised-done refl h z (λ _. does))
+    go (no z) = rw (ne-eqb (numberOf a) 0 z) (promised-refused refl h z)
 
 abbrev pub createOf : Bool → Dispatcher → ℕ → ℕ → ℕ → Outcome
 createOf sound d slot priority mask = settled (firstOf (createTests sound d slot priority mask)) d (withTask d slot (record { priority = priority; mask = mask }))
 
 pub create-creates : {b : Bool} (d : Dispatcher) (slot priority mask : ℕ) → Decides (Sound d) b → Creates d slot priority mask (createOf b d slot priority mask)
-create-creates d slot priority mask s = settles _ _ (create-answers d slot priority mask s) (record { filled = refl; still = refl })
+create-creates d slot priority mask s = settles _ _ (create-answers d slot priority mask s) (record { written = refl; still = refl })
 
 abbrev pub deleteOf : Bool → Dispatcher → ℕ → Outcome
 deleteOf sound d slot = settled (firstOf (deleteTests sound d slot)) d (withTask d slot noTask)
 
 pub delete-deletes : {b : Bool} (d : Dispatcher) (slot : ℕ) → Decides (Sound d) b → Deletes d slot (deleteOf b d slot)
-delete-deletes d slot s = settles _ _ (delete-answers d slot s) (record { emptied = refl; still = refl })
+delete-deletes d slot s = settles _ _ (delete-answers d slot s) (record { written = refl; still = refl })

@@ -1,14 +1,12 @@
 -- Document 01: create fills the named slot, not ready.
 use Prim.Native.Nat.{ℕ}
-use mathlib.Core.Path.{_≡_}
 use mathlib.Core.List.{List, [], _∷_}
 use Rattle.dispatcher.specs.Answers.{Refusal, _when_}
 use Rattle.dispatcher.specs.Refusals.{IsUnsound, IsAbove, IsInUse, IsPriorityZero, IsMaskEmpty, IsMissingCore}
-use Rattle.dispatcher.specs.Reports.{stillOf}
-use Rattle.dispatcher.specs.Calls.{Calls}
+use Rattle.dispatcher.specs.Promise.{Promised}
 use Rattle.dispatcher.specs.declared.Dispatcher.{Dispatcher}
 use Rattle.dispatcher.specs.declared.Outcome.{Outcome}
-use Rattle.tasks.specs.Table.{withTask}
+use Rattle.tasks.specs.Table.{Writes}
 
 abbrev pub createRefusals : Dispatcher → ℕ → ℕ → ℕ → List Refusal
 createRefusals d slot priority mask =
@@ -19,9 +17,5 @@ createRefusals d slot priority mask =
     7 when IsMaskEmpty mask ∷
     8 when IsMissingCore d mask ∷ []
 
-pub record Fills (d : Dispatcher) (slot priority mask : ℕ) (r : Outcome) : Type 0 where
-  pub filled : r .dispatcher ≡ withTask d slot (record { priority = priority; mask = mask })
-  pub still : r .report ≡ stillOf (r .report .answer)
-
 abbrev pub Creates : Dispatcher → ℕ → ℕ → ℕ → Outcome → Type 0
-Creates d slot priority mask r = Calls (createRefusals d slot priority mask) d (Fills d slot priority mask) r
+Creates d slot priority mask r = Promised (createRefusals d slot priority mask) d (Writes d slot (record { priority = priority; mask = mask })) r

@@ -1,8 +1,15 @@
--- The dispatcher with another task in one slot; the wake order and the seats are as they were.
+-- A slot gets a task, or is emptied; the wake order and the seats are as they were, and nobody moves, starts or stops.
 use Prim.Native.Nat.{ℕ}
+use mathlib.Core.Path.{_≡_}
 use lib.ListN.{set}
+use Rattle.dispatcher.specs.Reports.{stillOf}
 use Rattle.dispatcher.specs.declared.Task.{Task}
 use Rattle.dispatcher.specs.declared.Dispatcher.{Dispatcher}
+use Rattle.dispatcher.specs.declared.Outcome.{Outcome}
 
 abbrev pub withTask : Dispatcher → ℕ → Task → Dispatcher
 withTask d slot t = record { cores = d .cores; tasks = set (d .tasks) slot t; order = d .order; seats = d .seats }
+
+pub record Writes (d : Dispatcher) (slot : ℕ) (t : Task) (r : Outcome) : Type 0 where
+  pub written : r .dispatcher ≡ withTask d slot t
+  pub still : r .report ≡ stillOf (r .report .answer)

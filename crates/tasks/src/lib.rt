@@ -98,10 +98,6 @@ pub fn delete(d: Dispatcher, slot: u16) -> Outcome
             dispatcher: d,
         };
     }
-    let t = Task {
-        priority: 0,
-        mask: 0,
-    };
-    let dispatcher = with_task(d, slot, t);
+    let dispatcher = with_task(d, slot, Task::EMPTY);
     Outcome { report, dispatcher }
 }

@@ -1,10 +1,10 @@
 -- `masks::has` meets its promise: a word has no bit at or above its width.
-use Rattle.masks.specs.Masks.{width}
 use mathlib.Core.Path.{sym}
-use Rattle.masks.proofs.Bits.{has-beyond}
 use borrow.Author.Needs.{needs}
-use Rattle.masks.proofs.has.Statement.{statement}
+use Rattle.masks.specs.Masks.{width}
+use Rattle.masks.proofs.Bits.{has-beyond}
 use Rattle.masks.proofs.has.Tie as tie
+use Rattle.masks.proofs.has.Statement.{statement}
 
 cast-result : tie.Need-cast-result
 cast-result c = search needs

@@ -1,10 +1,10 @@
 -- `masks::names_missing` meets its promise: the mask shifted down by the count is what it names from there on.
-use Rattle.masks.specs.Masks.{width}
-use Rattle.laws.proofs.Deciding.{decides-false}
-use Rattle.masks.proofs.Bits.{names-test, none-beyond}
 use borrow.Author.Needs.{needs}
-use Rattle.masks.proofs.names_missing.Statement.{statement}
+use Rattle.laws.proofs.Deciding.{decides-false}
+use Rattle.masks.specs.Masks.{width}
+use Rattle.masks.proofs.Bits.{names-test, none-beyond}
 use Rattle.masks.proofs.names_missing.Tie as tie
+use Rattle.masks.proofs.names_missing.Statement.{statement}
 
 shr-result : tie.Need-shr-result
 shr-result c = search needs

@@ -1,12 +1,13 @@
-use borrow.Author.Needs.{needs}
+-- `first_places` meets its promise: going down the list, the table has the first place of each slot among the places passed.
 use Prim.Native.Nat.{_≤_, _-_}
 use native.Mathlib.Omega.{arith}
 use lib.ListN.{length}
-use Rattle.dispatcher.specs.Limits.{none}
+use borrow.Author.Needs.{needs}
 use Rattle.laws.proofs.Lists.{getD-any}
+use Rattle.dispatcher.specs.Limits.{none}
 use Rattle.soundness.proofs.Placing.{Marked, marked-none, marked-slot, marked-other, marked-all}
-use Rattle.soundness.proofs.first_places.Statement.{statement}
 use Rattle.soundness.proofs.first_places.Tie as tie
+use Rattle.soundness.proofs.first_places.Statement.{statement}
 
 abbrev Inv-loop : tie.InvT-loop
 Inv-loop list places₀ i₀ places i = (i ≤ length list) × Marked list i places

@@ -1,12 +1,13 @@
-use borrow.Author.Needs.{needs}
+-- `illegal_slot` meets its promise: all slots below the loop's are kept.
 use Prim.Native.Nat.{ℕ, _≤_, _<_, _-_}
 use native.Mathlib.Omega.{arith}
+use borrow.Author.Needs.{needs}
 use borrow.Author.Count.{below-more}
 use borrow.Author.Tests.{not-true, not-false}
 use Rattle.dispatcher.specs.Limits.{slotLimit}
 use Rattle.dispatcher.specs.Sound.{SlotKept}
-use Rattle.soundness.proofs.illegal_slot.Statement.{statement}
 use Rattle.soundness.proofs.illegal_slot.Tie as tie
+use Rattle.soundness.proofs.illegal_slot.Statement.{statement}
 
 abbrev Inv-loop : tie.InvT-loop
 Inv-loop d cores s₀ s = (s ≤ slotLimit) × ((j : ℕ) → j < s → SlotKept d j)

@@ -1,10 +1,11 @@
+-- `legal` meets its promise, test by test: an empty slot is kept, and a used one asks for a priority, a mask and no missing core.
 use native.Mathlib.Omega.{arith}
 use borrow.Author.Tests.{not-true, not-false}
+use borrow.Author.Needs.{needs}
 use Rattle.laws.proofs.Deciding.{decides-true, decides-false, decides-by, decides-not}
 use Rattle.masks.proofs.Bits.{legal-mask, missing-illegal}
-use borrow.Author.Needs.{needs}
-use Rattle.soundness.proofs.legal.Statement.{statement}
 use Rattle.soundness.proofs.legal.Tie as tie
+use Rattle.soundness.proofs.legal.Statement.{statement}
 
 is-used-requires : tie.Need-is-used-requires
 is-used-requires c κs = search needs

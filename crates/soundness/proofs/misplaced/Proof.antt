@@ -1,22 +1,24 @@
-use borrow.Author.Needs.{needs}
+-- `misplaced` meets its promise: all places below the loop's are kept, `gap` tells whether one of them is unused, and the table of first places decides
+-- the place at hand.
 use Prim.Native.Nat.{ℕ, _≤_, _<_, _-_}
+use mathlib.Core.Path.{_≡_, sym}
+use mathlib.Core.Logic.{⊎-elim}
+use mathlib.Core.Bool.{Bool, false}
 use native.Mathlib.Omega.{arith}
+use lib.ListN.{length, getD, length-map}
+use borrow.Author.Needs.{needs}
 use borrow.Author.Count.{below-more}
 use borrow.Author.Tests.{not-true, not-false}
 use Rattle.laws.specs.Decides.{Decides}
-use Rattle.dispatcher.specs.declared.Dispatcher.{Dispatcher}
-use mathlib.Core.Path.{_≡_, sym, _∙_}
-use mathlib.Core.Logic.{⊎-elim}
-use mathlib.Core.Bool.{Bool, false}
-use lib.ListN.{length, getD, length-map}
 use Rattle.laws.proofs.Deciding.{decides-is}
 use Rattle.dispatcher.specs.Limits.{slotLimit}
 use Rattle.dispatcher.specs.Slots.{taskAt, orderAt, Used}
 use Rattle.dispatcher.specs.Sound.{PlaceKept}
+use Rattle.dispatcher.specs.declared.Dispatcher.{Dispatcher}
 use Rattle.dispatcher.proofs.Reading.{order-read}
 use Rattle.soundness.proofs.Keeping.{GapBefore, gap-start, gap-open, gap-on, entry-decides, entry-above, entry-unused}
-use Rattle.soundness.proofs.misplaced.Statement.{statement}
 use Rattle.soundness.proofs.misplaced.Tie as tie
+use Rattle.soundness.proofs.misplaced.Statement.{statement}
 
 abbrev Inv-loop : tie.InvT-loop
 Inv-loop places d gap₀ k₀ gap k = (k ≤ slotLimit) × ((j : ℕ) → j < k → PlaceKept d j) × Decides (GapBefore d k) gap
@@ -92,7 +94,7 @@ returns-2 c =
     let i = c .before .before .before in
     record {
       below = i .loop-test .taken;
-      fails = entry-above (d i) (k i) (rw (read i) (c .before .if1 .left)) (rw (read i) (c .if3 .taken));
+      fails = entry-above (d i) (k i) (rw (read i) (c .before .if1 .left)) (λ x. omega (arith, x, read i, c .if3 .taken));
       lower = i .before .loop .inv .1;
     }
 
@@ -112,7 +114,7 @@ loop-again c =
       below-more _ _ (l .inv .1) (tested i (w .0 .taken) (w .3 .ensures) .yes (not-false _ (w .4 .left))),
       decides-is (sym (w .5)) (gap-on (d i) (l .k) (λ x. omega (arith, x, read i, w .0 .taken)) (l .inv .2)),
     ))
-    (λ w. (omega arith, below-more _ _ (l .inv .1) (entry-unused (d i) (l .k) (read i ∙ w .1 .left)), decides-is (sym (w .2)) (gap-open (d i) (l .k) (read i ∙ w .1 .left))))
+    (λ w. (omega arith, below-more _ _ (l .inv .1) (entry-unused (d i) (l .k) (omega (arith, read i, w .1 .left))), decides-is (sym (w .2)) (gap-open (d i) (l .k) (omega (arith, read i, w .1 .left)))))
     (c .if1 .came)
 
 returns-3 : tie.Need-returns-3 Inv-loop μ-loop

@@ -1,22 +1,23 @@
-use borrow.Author.Needs.{needs}
+-- `misseated` meets its promise: all cores below the loop's are kept, and the tables of first places decide the core at hand.
 use Prim.Native.Nat.{ℕ, _≤_, _<_, _-_}
+use mathlib.Core.Path.{_≡_}
+use mathlib.Core.Logic.{_≢_, ⊎-elim}
+use mathlib.Core.Bool.{Bool, true}
 use native.Mathlib.Omega.{arith}
+use lib.ListN.{length, getD, length-map}
+use borrow.Author.Needs.{needs}
 use borrow.Author.Count.{below-more}
 use borrow.Author.Tests.{not-true, not-false}
 use Rattle.laws.specs.Decides.{Decides}
-use Rattle.dispatcher.specs.declared.Dispatcher.{Dispatcher}
-use mathlib.Core.Path.{_≡_, _∙_}
-use mathlib.Core.Logic.{_≢_, ⊎-elim}
-use mathlib.Core.Bool.{Bool, true}
-use lib.ListN.{length, getD, length-map}
 use Rattle.masks.specs.Masks.{has}
 use Rattle.dispatcher.specs.Limits.{coreLimit, slotLimit, none}
 use Rattle.dispatcher.specs.Slots.{taskAt, seatAt}
 use Rattle.dispatcher.specs.Sound.{SeatKept}
+use Rattle.dispatcher.specs.declared.Dispatcher.{Dispatcher}
 use Rattle.dispatcher.proofs.Reading.{seat-read}
 use Rattle.soundness.proofs.Keeping.{seat-decides, seat-above, seat-idle}
-use Rattle.soundness.proofs.misseated.Statement.{statement}
 use Rattle.soundness.proofs.misseated.Tie as tie
+use Rattle.soundness.proofs.misseated.Statement.{statement}
 
 abbrev Inv-loop : tie.InvT-loop
 Inv-loop places d firsts c₀ c = (c ≤ coreLimit) × ((j : ℕ) → j < c → SeatKept d j)
@@ -110,7 +111,7 @@ returns-2 c =
     let i = c .before .before .before in
     record {
       below = i .loop-test .taken;
-      fails = seat-above (d i) (k i) (rw (read i) (c .before .if1 .left)) (rw (read i) (c .if3 .taken));
+      fails = seat-above (d i) (k i) (rw (read i) (c .before .if1 .left)) (λ x. omega (arith, x, read i, c .if3 .taken));
       lower = i .before .loop .inv .1;
     }
 
@@ -125,7 +126,7 @@ loop-again c =
     let i = c .before .before in (
       omega arith,
       below-more _ _ (i .before .loop .inv .1)
-          (⊎-elim (λ w. tested i (w .0 .taken) (w .3 .ensures) .yes (not-false _ (w .4 .left))) (λ w. seat-idle (d i) (k i) (read i ∙ w .1 .left)) (c .if1 .came)),
+          (⊎-elim (λ w. tested i (w .0 .taken) (w .3 .ensures) .yes (not-false _ (w .4 .left))) (λ w. seat-idle (d i) (k i) (omega (arith, read i, w .1 .left))) (c .if1 .came)),
     )
 
 returns-3 : tie.Need-returns-3 Inv-loop μ-loop

@@ -1,21 +1,23 @@
+-- `seat_kept` meets its promise, test by test.
 use mathlib.Core.Path.{sym, _∙_}
-use Rattle.laws.proofs.Deciding.{clash, decides-false}
+use native.Mathlib.Omega.{arith}
 use borrow.Author.Needs.{needs}
-use Rattle.soundness.proofs.seat_kept.Statement.{statement}
+use Rattle.laws.proofs.Deciding.{clash, decides-false}
 use Rattle.soundness.proofs.seat_kept.Tie as tie
+use Rattle.soundness.proofs.seat_kept.Statement.{statement}
 
 returns : tie.Need-returns
 returns c = decides-false (λ h. h .0 (c .if1 .taken))
 
 returns-2 : tie.Need-returns-2
-returns-2 c = decides-false (λ h. c .if2 .taken (h .1))
+returns-2 c = decides-false (λ h. omega (arith, c .if2 .taken, h .1))
 
 has-requires : tie.Need-has-requires
 has-requires c κs = search needs
 
 returns-3 : tie.Need-returns-3
 returns-3 c = record {
-  yes = λ y. (c .before .before .if1 .left, c .before .if2 .left, sym (c .has .ensures) ∙ y);
+  yes = λ y. (c .before .before .if1 .left, omega (arith, c .before .if2 .left), sym (c .has .ensures) ∙ y);
   no = λ n h. clash (h .2) (sym (c .has .ensures) ∙ n);
 }
 

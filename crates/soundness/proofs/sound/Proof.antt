@@ -1,22 +1,23 @@
+-- `sound` meets its promise: it is true where each of the five searches finds nothing.
 use mathlib.Core.Path.{_≡_, sym}
 use native.Mathlib.Omega.{arith}
-use borrow.Author.Tests.{not-true, not-false}
 use lib.ListN.{length, length-map}
+use borrow.Author.Tests.{not-true, not-false}
+use borrow.Author.Needs.{needs}
 use Rattle.laws.specs.Decides.{Decides}
 use Rattle.laws.proofs.Deciding.{decides-is, decides-false, decides-by}
 use Rattle.dispatcher.specs.Limits.{slotLimit}
 use Rattle.dispatcher.specs.Sound.{CountLegal, SlotsLegal, OrderKept, MissingIdle, SeatsKept}
-use Rattle.soundness.proofs.Keeping.{count-decides, nothing-decides}
-use borrow.Author.Needs.{needs}
-use Rattle.soundness.proofs.sound.Statement.{statement}
+use Rattle.soundness.proofs.Keeping.{counted-decides, nothing-decides}
 use Rattle.soundness.proofs.sound.Tie as tie
+use Rattle.soundness.proofs.sound.Statement.{statement}
 
 order-long : (e : tie.Start) → length (e .args .d .order) ≡ slotLimit
 order-long e = simp length-map at (e .good .0 .1 .1 .1 .1 .0 .1 .0 .1)
 
 -- what each search's test decides
 count : (c : tie.After-is-nothing) → Decides (CountLegal (c .before .before .args .d)) (c .is-nothing .result)
-count c = decides-is (sym (c .is-nothing .ensures)) (count-decides (c .before .wrong-count .result) (c .before .wrong-count .ensures))
+count c = decides-is (sym (c .is-nothing .ensures)) (counted-decides (c .before .wrong-count .result) (c .before .wrong-count .ensures))
 
 slots : (c : tie.After-is-nothing2) → Decides (SlotsLegal (c .before .before .before .before .before .args .d)) (c .is-nothing2 .result)
 slots c = decides-is (sym (c .is-nothing2 .ensures)) (nothing-decides (c .before .illegal-slot .result) (c .before .illegal-slot .ensures))

@@ -1,14 +1,15 @@
+-- `create_answer` meets its promise: each return is the first test of the model's list that is true.
 use mathlib.Core.Path.{_≡_, _∙_}
 use mathlib.Core.Bool.{true, false}
 use borrow.Author.Tests.{not-true, not-false, le-leb, lt-leb, eq-eqb, ne-eqb}
+use borrow.Author.Needs.{needs}
 use Rattle.laws.proofs.Deciding.{decides-same}
 use Rattle.masks.proofs.Bits.{names-test}
 use Rattle.dispatcher.proofs.Judging.{firstOf}
 use Rattle.dispatcher.proofs.Testing.{used-decides}
 use Rattle.tasks.proofs.Model.{create-answers}
-use borrow.Author.Needs.{needs}
-use Rattle.tasks.proofs.create_answer.Statement.{statement}
 use Rattle.tasks.proofs.create_answer.Tie as tie
+use Rattle.tasks.proofs.create_answer.Statement.{statement}
 
 unsound : (c : tie.Then1) → c .before .sound .result ≡ false
 unsound c = not-true _ (c .if1 .taken)

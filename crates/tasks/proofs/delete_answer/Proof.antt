@@ -1,13 +1,14 @@
+-- `delete_answer` meets its promise: each return is the first test of the model's list that is true.
 use mathlib.Core.Path.{_≡_, _∙_}
 use mathlib.Core.Bool.{true, false}
 use borrow.Author.Tests.{not-true, not-false, le-leb, lt-leb}
+use borrow.Author.Needs.{needs}
 use Rattle.laws.proofs.Deciding.{decides-same}
 use Rattle.dispatcher.proofs.Judging.{firstOf}
 use Rattle.dispatcher.proofs.Testing.{empty-is, ready-decides}
 use Rattle.tasks.proofs.Model.{delete-answers}
-use borrow.Author.Needs.{needs}
-use Rattle.tasks.proofs.delete_answer.Statement.{statement}
 use Rattle.tasks.proofs.delete_answer.Tie as tie
+use Rattle.tasks.proofs.delete_answer.Statement.{statement}
 
 unsound : (c : tie.Then1) → c .before .sound .result ≡ false
 unsound c = not-true _ (c .if1 .taken)

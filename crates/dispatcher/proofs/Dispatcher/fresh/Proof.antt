@@ -1,9 +1,10 @@
-use Rattle.laws.proofs.Deciding.{decides-is}
+-- `Dispatcher::fresh` meets its promise: it returns what the model does on the test of its count.
 use borrow.Author.Tests.{not-true, not-false}
-use Rattle.dispatcher.proofs.Freshness.{freshly}
 use borrow.Author.Needs.{needs}
-use Rattle.dispatcher.proofs.Dispatcher.fresh.Statement.{statement}
+use Rattle.laws.proofs.Deciding.{decides-is}
+use Rattle.dispatcher.proofs.Freshness.{freshly}
 use Rattle.dispatcher.proofs.Dispatcher.fresh.Tie as tie
+use Rattle.dispatcher.proofs.Dispatcher.fresh.Statement.{statement}
 
 legal-count-requires : tie.Need-legal-count-requires
 legal-count-requires c κs = search needs

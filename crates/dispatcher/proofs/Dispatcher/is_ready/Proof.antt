@@ -1,16 +1,17 @@
-use borrow.Author.Needs.{needs}
+-- `Dispatcher::is_ready` meets its promise: the slot stands at no place below the loop's.
 use Prim.Native.Nat.{ℕ, _≤_, _<_, _-_}
 use mathlib.Core.Path.{_≡_, sym, _∙_}
 use mathlib.Core.Logic.{_≢_}
 use native.Mathlib.Omega.{arith}
-use borrow.Author.Count.{below-more}
 use lib.ListN.{getD, length-map}
-use Rattle.dispatcher.proofs.Reading.{order-read}
+use borrow.Author.Needs.{needs}
+use borrow.Author.Count.{below-more}
 use Rattle.laws.proofs.Deciding.{decides-false, decides-true}
 use Rattle.dispatcher.specs.Limits.{slotLimit}
 use Rattle.dispatcher.specs.Slots.{orderAt}
-use Rattle.dispatcher.proofs.Dispatcher.is_ready.Statement.{statement}
+use Rattle.dispatcher.proofs.Reading.{order-read}
 use Rattle.dispatcher.proofs.Dispatcher.is_ready.Tie as tie
+use Rattle.dispatcher.proofs.Dispatcher.is_ready.Statement.{statement}
 
 abbrev Inv-loop : tie.InvT-loop
 Inv-loop slot self k₀ k = (k ≤ slotLimit) × ((j : ℕ) → j < k → orderAt self j ≢ slot)

@@ -8,7 +8,7 @@ use Rattle.dispatcher.specs.Reports.{stillOf}
 use Rattle.dispatcher.specs.declared.Dispatcher.{Dispatcher}
 use Rattle.dispatcher.specs.declared.Outcome.{Outcome}
 
-pub record Calls (refusals : List Refusal) (d : Dispatcher) (Done : Outcome → Type 0) (r : Outcome) : Type 0 where
+pub record Promised (refusals : List Refusal) (d : Dispatcher) (Done : Outcome → Type 0) (r : Outcome) : Type 0 where
   pub answer : Answers refusals (numberOf (r .report .answer))
   pub done : numberOf (r .report .answer) ≡ 0 → Done r
   pub kept : numberOf (r .report .answer) ≢ 0 → r .dispatcher ≡ d

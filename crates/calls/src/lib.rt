@@ -1,0 +1,1 @@
+// Promised in a row: definitions and theorems over the promises of the calls, and no code.
