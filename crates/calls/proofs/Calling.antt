@@ -1,9 +1,7 @@
 -- Over all calls: one result, soundness kept, and a model that computes on a sound dispatcher.
-use Prim.Native.Nat.{_≤_}
 use mathlib.Core.Path.{_≡_}
 use mathlib.Core.Bool.{true}
 use Rattle.laws.proofs.Deciding.{decides-true}
-use Rattle.dispatcher.specs.Limits.{greatestPriority}
 use Rattle.dispatcher.specs.Slots.{Shaped}
 use Rattle.dispatcher.specs.Sound.{Sound}
 use Rattle.dispatcher.specs.declared.Dispatcher.{Dispatcher}
@@ -11,16 +9,11 @@ use Rattle.dispatcher.specs.declared.Outcome.{Outcome}
 use Rattle.tasks.proofs.Model.{createOf, create-creates, deleteOf, delete-deletes}
 use Rattle.tasks.proofs.Same.{creates-same, deletes-same}
 use Rattle.tasks.proofs.Keeping.{create-keeps, delete-keeps}
-use Rattle.calls.specs.Call.{Call, create, delete, Does}
+use Rattle.calls.specs.Call.{Call, create, delete, Does, Fits}
 
 pub does-same : (c : Call) (d : Dispatcher) {r q : Outcome} → Does c d r → Does c d q → r ≡ q
 does-same (create slot priority mask) d a b = creates-same a b
 does-same (delete slot) d a b = deletes-same a b
-
--- a priority is one byte
-abbrev pub Fits : Call → Type 0
-Fits (create slot priority mask) = priority ≤ greatestPriority
-Fits (delete slot) = Unit {0}
 
 pub does-keeps : (c : Call) {d : Dispatcher} (r : Outcome) → Fits c → Shaped d → Sound d → Does c d r → Shaped (r .dispatcher) × Sound (r .dispatcher)
 does-keeps (create slot priority mask) r f L S h = create-keeps L S f h

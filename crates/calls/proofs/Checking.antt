@@ -18,9 +18,9 @@ use Rattle.dispatcher.proofs.Judging.{firstOf}
 use Rattle.dispatcher.proofs.Same.{freshly-same}
 use Rattle.dispatcher.proofs.Freshness.{freshOf, freshly, freshly-keeps}
 use Rattle.dispatcher.proofs.Testing.{countTest, count-decides}
-use Rattle.calls.specs.Call.{Call, create, delete}
+use Rattle.calls.specs.Call.{Call, create, delete, Fits}
 use Rattle.calls.specs.Cases.{Line, Prints, Follows, Case, Holds, AllHold, cases}
-use Rattle.calls.proofs.Calling.{does-same, Fits, does-keeps, modelOf, model-does}
+use Rattle.calls.proofs.Calling.{does-same, does-keeps, modelOf, model-does}
 
 both : (a b : Bool) → a && b ≡ true → (a ≡ true) × (b ≡ true)
 both true b h = (refl, h)

@@ -13,10 +13,10 @@ use Rattle.laws.specs.Decides.{Decides}
 use Rattle.laws.proofs.Deciding.{clash, decides-by, decides-not, decides-eq}
 use Rattle.masks.specs.Masks.{has, NamesMissing, LegalMask}
 
-pub has-shifted : (m j k : ℕ) → has (m / 2 ^ j) k ≡ has m (j + k)
+has-shifted : (m j k : ℕ) → has (m / 2 ^ j) k ≡ has m (j + k)
 has-shifted m j k = ap (λ (n : ℕ). eqb (n % 2) 1) (shr-shr m j k)
 
-pub has-zero : (k : ℕ) → has 0 k ≡ false
+has-zero : (k : ℕ) → has 0 k ≡ false
 has-zero k = rw (zero-div (2 ^ k))
 
 -- no bit at or above the width

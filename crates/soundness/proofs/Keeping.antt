@@ -1,6 +1,6 @@
 -- What the tests of one place of the wake order, and of one core, decide.
 use Prim.Native.Nat.{ℕ, _+_, _≤_, _<_}
-use mathlib.Core.Path.{_≡_, sym, _∙_, subst}
+use mathlib.Core.Path.{_≡_, refl, sym, ap, _∙_, subst}
 use mathlib.Core.Logic.{_≢_, _⊎_, inl, inr}
 use mathlib.Core.Bool.{Bool, true, false}
 use native.Mathlib.Decide.{ℕ-discrete}
@@ -8,6 +8,7 @@ use native.Mathlib.Omega.{arith}
 use Rattle.laws.specs.Decides.{Decides}
 use Rattle.laws.specs.Lowest.{Throughout}
 use Rattle.laws.proofs.Deciding.{cases, decides-true, decides-false, decides-by}
+use Rattle.laws.proofs.Lowering.{lowest-same}
 use Rattle.masks.specs.Masks.{has}
 use Rattle.dispatcher.specs.Limits.{coreLimit, slotLimit, none, LegalCount}
 use Rattle.dispatcher.specs.Slots.{taskAt, orderAt, seatAt, Used}
@@ -90,3 +91,10 @@ counted-decides Nothing h = decides-true h
 pub nothing-decides : {n : ℕ} {Kept : ℕ → Type 0} (f : Found) → Finds n Kept f → Decides (Throughout n Kept) (isNothing f)
 nothing-decides (At k) h = decides-false (λ t. h .fails (t k (h .below)))
 nothing-decides Nothing h = decides-true h
+
+-- and it has one
+pub finds-same : (n : ℕ) (Kept : ℕ → Type 0) (f g : Found) → Finds n Kept f → Finds n Kept g → f ≡ g
+finds-same n Kept (At j) (At k) a b = ap At (lowest-same a b)
+finds-same n Kept (At j) Nothing a b = absurd (a .fails (b j (a .below)))
+finds-same n Kept Nothing (At k) a b = absurd (b .fails (a k (b .below)))
+finds-same n Kept Nothing Nothing a b = refl

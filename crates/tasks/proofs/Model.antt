@@ -1,9 +1,8 @@
 -- What create and delete do, as functions that compute, over what the test of soundness says; and that they meet the promises.
 use Prim.Native.Nat.{ℕ, _/_, _^_}
-use mathlib.Core.Path.{_≡_, refl}
+use mathlib.Core.Path.{refl}
 use mathlib.Core.Bool.{Bool, not, cond}
 use mathlib.Core.List.{List, [], _∷_}
-use native.Mathlib.Decide.{ℕ-discrete}
 use native.Mathlib.Omega.{arith}
 use lib.Dec.{eqb, leb}
 use borrow.Author.Tests.{eq-eqb, ne-eqb}
@@ -13,19 +12,19 @@ use Rattle.masks.proofs.Bits.{names-test}
 use Rattle.dispatcher.specs.Limits.{slotLimit}
 use Rattle.dispatcher.specs.Slots.{noTask, taskAt}
 use Rattle.dispatcher.specs.Sound.{Sound}
-use Rattle.dispatcher.specs.Answers.{numberOf, Refusal, Answers}
+use Rattle.dispatcher.specs.Answers.{numberOf, Answers}
 use Rattle.dispatcher.specs.Reports.{stillOf}
-use Rattle.dispatcher.specs.Promise.{Promised}
 use Rattle.dispatcher.specs.declared.Answer.{Answer}
 use Rattle.dispatcher.specs.declared.Answer.the-variants.{NotSound, SlotAbove, SlotInUse, SlotEmpty, PriorityZero, MaskEmpty, MissingCore, StillReady}
+use Rattle.dispatcher.specs.declared.Task.{Task}
 use Rattle.dispatcher.specs.declared.Dispatcher.{Dispatcher}
 use Rattle.dispatcher.specs.declared.Outcome.{Outcome}
 use Rattle.dispatcher.proofs.Judging.{Test, test, firstOf, judged}
 use Rattle.dispatcher.proofs.Testing.{emptyTest, empty-decides, used-decides, readyTest, ready-decides}
-use Rattle.dispatcher.proofs.Promises.{promised-refused, promised-done}
-use Rattle.tasks.specs.Table.{withTask}
+use Rattle.tasks.specs.Table.{withTask, Settles}
 use Rattle.tasks.specs.Create.{createRefusals, Creates}
 use Rattle.tasks.specs.Delete.{deleteRefusals, Deletes}
+use Rattle.tasks.proofs.Settling.{settles-promised}
 
 -- ---- the answers
 
@@ -100,22 +99,17 @@ delete-answers {b} d slot s =
 abbrev pub settled : Answer → Dispatcher → Dispatcher → Outcome
 settled a d next = record { report = stillOf a; dispatcher = cond (eqb (numberOf a) 0) next d }
 
-settles : {rs : List Refusal} {d : Dispatcher} (next : Dispatcher) {Does : Outcome → Type 0} (a : Answer) → Answers rs (numberOf a)
-    → Does (record { report = stillOf a; dispatcher = next }) → Promised rs d Does (settled a d next)
-settles {rs} {d} next {Does} a h does = go (ℕ-discrete (numberOf a) 0)
-  where
-    go : Dec (numberOf a ≡ 0) → Promised rs d Does (settled a d next)
-    go (yes z) = rw (eq-eqb (numberOf a) 0 z) (promised-done refl h z (λ _. does))
-    go (no z) = rw (ne-eqb (numberOf a) 0 z) (promised-refused refl h z)
+settled-settles : {d : Dispatcher} {slot : ℕ} {t : Task} (a : Answer) → Settles d slot t a (settled a d (withTask d slot t))
+settled-settles a = record { report = refl; done = λ z. rw (eq-eqb (numberOf a) 0 z) refl; refused = λ z. rw (ne-eqb (numberOf a) 0 z) refl }
 
 abbrev pub createOf : Bool → Dispatcher → ℕ → ℕ → ℕ → Outcome
 createOf sound d slot priority mask = settled (firstOf (createTests sound d slot priority mask)) d (withTask d slot (record { priority = priority; mask = mask }))
 
 pub create-creates : {b : Bool} (d : Dispatcher) (slot priority mask : ℕ) → Decides (Sound d) b → Creates d slot priority mask (createOf b d slot priority mask)
-create-creates d slot priority mask s = settles _ _ (create-answers d slot priority mask s) (record { written = refl; still = refl })
+create-creates {b} d slot priority mask s = settles-promised (create-answers d slot priority mask s) (settled-settles (firstOf (createTests b d slot priority mask)))
 
 abbrev pub deleteOf : Bool → Dispatcher → ℕ → Outcome
 deleteOf sound d slot = settled (firstOf (deleteTests sound d slot)) d (withTask d slot noTask)
 
 pub delete-deletes : {b : Bool} (d : Dispatcher) (slot : ℕ) → Decides (Sound d) b → Deletes d slot (deleteOf b d slot)
-delete-deletes d slot s = settles _ _ (delete-answers d slot s) (record { written = refl; still = refl })
+delete-deletes {b} d slot s = settles-promised (delete-answers d slot s) (settled-settles (firstOf (deleteTests b d slot)))

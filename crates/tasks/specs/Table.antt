@@ -1,8 +1,11 @@
 -- A slot gets a task, or is emptied; the wake order and the seats are as they were, and nobody moves, starts or stops.
 use Prim.Native.Nat.{ℕ}
 use mathlib.Core.Path.{_≡_}
+use mathlib.Core.Logic.{_≢_}
 use lib.ListN.{set}
+use Rattle.dispatcher.specs.Answers.{numberOf}
 use Rattle.dispatcher.specs.Reports.{stillOf}
+use Rattle.dispatcher.specs.declared.Answer.{Answer}
 use Rattle.dispatcher.specs.declared.Task.{Task}
 use Rattle.dispatcher.specs.declared.Dispatcher.{Dispatcher}
 use Rattle.dispatcher.specs.declared.Outcome.{Outcome}
@@ -13,3 +16,9 @@ withTask d slot t = record { cores = d .cores; tasks = set (d .tasks) slot t; or
 pub record Writes (d : Dispatcher) (slot : ℕ) (t : Task) (r : Outcome) : Type 0 where
   pub written : r .dispatcher ≡ withTask d slot t
   pub still : r .report ≡ stillOf (r .report .answer)
+
+-- the same where the answer is done, and the dispatcher as it stood where it is a refusal
+pub record Settles (d : Dispatcher) (slot : ℕ) (t : Task) (a : Answer) (r : Outcome) : Type 0 where
+  pub report : r .report ≡ stillOf a
+  pub done : numberOf a ≡ 0 → r .dispatcher ≡ withTask d slot t
+  pub refused : numberOf a ≢ 0 → r .dispatcher ≡ d

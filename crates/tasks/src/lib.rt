@@ -3,7 +3,7 @@ ghost use mathlib.Core.Path.{_≡_};
 ghost use Prim.Native.Nat.{_<_};
 ghost use Rattle.dispatcher.specs.Limits.{slotLimit};
 ghost use Rattle.dispatcher.specs.Answers.{numberOf, Answers};
-ghost use Rattle.tasks.specs.Table.{withTask};
+ghost use Rattle.tasks.specs.Table.{Settles};
 ghost use Rattle.tasks.specs.Create.{createRefusals, Creates};
 ghost use Rattle.tasks.specs.Delete.{deleteRefusals, Deletes};
 use dispatcher::Answer;
@@ -59,14 +59,25 @@ fn delete_answer(d: Dispatcher, slot: u16) -> Answer
     Answer::Done
 }
 
-fn with_task(d: Dispatcher, slot: u16, t: Task) -> Dispatcher
-    requires { ⌜ slot < slotLimit ⌝ }
-    ensures { λ r. ⌜ r ≡ withTask d slot t ⌝ }
+// The slot gets the task where the answer is Done; else the dispatcher stays as it stood.
+fn written(d: Dispatcher, slot: u16, t: Task, answer: Answer) -> Outcome
+    requires { ⌜ (numberOf answer ≡ 0 → slot < slotLimit) ⌝ }
+    ensures { λ r. ⌜ Settles d slot t answer r ⌝ }
 {
+    let report = Report::still(answer);
+    if answer.number() != 0 {
+        return Outcome {
+            report,
+            dispatcher: d,
+        };
+    }
     let mut next = d;
     let at = slot as usize;
     next.tasks[at] = t;
-    next
+    Outcome {
+        report,
+        dispatcher: next,
+    }
 }
 
 // Fills an empty slot.
@@ -74,16 +85,8 @@ pub fn create(d: Dispatcher, slot: u16, priority: u8, mask: u32) -> Outcome
     ensures { λ r. ⌜ Creates d slot priority mask r ⌝ }
 {
     let answer = create_answer(d, slot, priority, mask);
-    let report = Report::still(answer);
-    if answer.number() != 0 {
-        return Outcome {
-            report,
-            dispatcher: d,
-        };
-    }
     let t = Task { priority, mask };
-    let dispatcher = with_task(d, slot, t);
-    Outcome { report, dispatcher }
+    written(d, slot, t, answer)
 }
 
 // Empties the slot of a task that is not ready.
@@ -91,13 +94,5 @@ pub fn delete(d: Dispatcher, slot: u16) -> Outcome
     ensures { λ r. ⌜ Deletes d slot r ⌝ }
 {
     let answer = delete_answer(d, slot);
-    let report = Report::still(answer);
-    if answer.number() != 0 {
-        return Outcome {
-            report,
-            dispatcher: d,
-        };
-    }
-    let dispatcher = with_task(d, slot, Task::EMPTY);
-    Outcome { report, dispatcher }
+    written(d, slot, Task::EMPTY, answer)
 }
