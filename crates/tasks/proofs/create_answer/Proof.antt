@@ -22,11 +22,16 @@ sound-requires c κs = search needs
 
 returns : tie.Need-returns
 unfolding firstOf
-returns c = simp (unsound c) at (create-answers (c .before .before .args .t1) (c .before .before .args .slot) (c .before .before .args .priority) (c .before .before .args .mask) (c .before .sound .ensures))
+returns c =
+    let a = c .before .before .args in
+    simp (unsound c) at (create-answers (a .t1) (a .slot) (a .priority) (a .mask) (c .before .sound .ensures))
 
 returns-2 : tie.Need-returns-2
 unfolding firstOf
-returns-2 c = simp (sound (c .before), le-leb _ _ (c .if2 .taken)) at (create-answers (c .before .before .before .args .t1) (c .before .before .before .args .slot) (c .before .before .before .args .priority) (c .before .before .before .args .mask) (c .before .before .sound .ensures))
+returns-2 c =
+    let first = c .before in
+    let a = first .before .before .args in
+    simp (sound first, le-leb _ _ (c .if2 .taken)) at (create-answers (a .t1) (a .slot) (a .priority) (a .mask) (first .before .sound .ensures))
 
 mul-t : tie.Need-mul-t
 mul-t c = search needs
@@ -39,26 +44,55 @@ is-used-requires c κs = search needs
 
 returns-3 : tie.Need-returns-3
 unfolding firstOf
-returns-3 c = simp (sound (c .before .before .before .before), lt-leb _ _ (c .before .before .before .if2 .left), decides-same (used-decides _) (c .before .is-used .ensures) ∙ c .if3 .taken) at (create-answers (c .before .before .before .before .before .before .args .t1) (c .before .before .before .before .before .before .args .slot) (c .before .before .before .before .before .before .args .priority) (c .before .before .before .before .before .before .args .mask) (c .before .before .before .before .before .sound .ensures))
+returns-3 c =
+    let second = c .before .before .before in
+    let first = second .before in
+    let a = first .before .before .args in
+    simp (sound first, lt-leb _ _ (second .if2 .left), decides-same (used-decides _) (c .before .is-used .ensures) ∙ c .if3 .taken) at (create-answers (a .t1) (a .slot) (a .priority) (a .mask) (first .before .sound .ensures))
 
 returns-4 : tie.Need-returns-4
 unfolding firstOf
-returns-4 c = simp (sound (c .before .before .before .before .before), lt-leb _ _ (c .before .before .before .before .if2 .left), decides-same (used-decides _) (c .before .before .is-used .ensures) ∙ c .before .if3 .left, eq-eqb _ _ (c .if4 .taken)) at (create-answers (c .before .before .before .before .before .before .before .args .t1) (c .before .before .before .before .before .before .before .args .slot) (c .before .before .before .before .before .before .before .args .priority) (c .before .before .before .before .before .before .before .args .mask) (c .before .before .before .before .before .before .sound .ensures))
+returns-4 c =
+    let third = c .before in
+    let second = third .before .before .before in
+    let first = second .before in
+    let a = first .before .before .args in
+    simp (sound first, lt-leb _ _ (second .if2 .left), decides-same (used-decides _) (third .before .is-used .ensures) ∙ third .if3 .left, eq-eqb _ _ (c .if4 .taken)) at (create-answers (a .t1) (a .slot) (a .priority) (a .mask) (first .before .sound .ensures))
 
 returns-5 : tie.Need-returns-5
 unfolding firstOf
-returns-5 c = simp (sound (c .before .before .before .before .before .before), lt-leb _ _ (c .before .before .before .before .before .if2 .left), decides-same (used-decides _) (c .before .before .before .is-used .ensures) ∙ c .before .before .if3 .left, ne-eqb _ _ (c .before .if4 .left), eq-eqb _ _ (c .if5 .taken)) at (create-answers (c .before .before .before .before .before .before .before .before .args .t1) (c .before .before .before .before .before .before .before .before .args .slot) (c .before .before .before .before .before .before .before .before .args .priority) (c .before .before .before .before .before .before .before .before .args .mask) (c .before .before .before .before .before .before .before .sound .ensures))
+returns-5 c =
+    let fourth = c .before in
+    let third = fourth .before in
+    let second = third .before .before .before in
+    let first = second .before in
+    let a = first .before .before .args in
+    simp (sound first, lt-leb _ _ (second .if2 .left), decides-same (used-decides _) (third .before .is-used .ensures) ∙ third .if3 .left, ne-eqb _ _ (fourth .if4 .left), eq-eqb _ _ (c .if5 .taken)) at (create-answers (a .t1) (a .slot) (a .priority) (a .mask) (first .before .sound .ensures))
 
 names-missing-requires : tie.Need-names-missing-requires
 names-missing-requires c κs = search needs
 
 returns-6 : tie.Need-returns-6
 unfolding firstOf
-returns-6 c = simp (sound (c .before .before .before .before .before .before .before .before), lt-leb _ _ (c .before .before .before .before .before .before .before .if2 .left), decides-same (used-decides _) (c .before .before .before .before .before .is-used .ensures) ∙ c .before .before .before .before .if3 .left, ne-eqb _ _ (c .before .before .before .if4 .left), ne-eqb _ _ (c .before .before .if5 .left), decides-same (names-test _ _) (c .before .names-missing .ensures) ∙ c .if6 .taken) at (create-answers (c .before .before .before .before .before .before .before .before .before .before .args .t1) (c .before .before .before .before .before .before .before .before .before .before .args .slot) (c .before .before .before .before .before .before .before .before .before .before .args .priority) (c .before .before .before .before .before .before .before .before .before .before .args .mask) (c .before .before .before .before .before .before .before .before .before .sound .ensures))
+returns-6 c =
+    let fifth = c .before .before in
+    let fourth = fifth .before in
+    let third = fourth .before in
+    let second = third .before .before .before in
+    let first = second .before in
+    let a = first .before .before .args in
+    simp (sound first, lt-leb _ _ (second .if2 .left), decides-same (used-decides _) (third .before .is-used .ensures) ∙ third .if3 .left, ne-eqb _ _ (fourth .if4 .left), ne-eqb _ _ (fifth .if5 .left), decides-same (names-test _ _) (c .before .names-missing .ensures) ∙ c .if6 .taken) at (create-answers (a .t1) (a .slot) (a .priority) (a .mask) (first .before .sound .ensures))
 
 returns-7 : tie.Need-returns-7
 unfolding firstOf
-returns-7 c = simp (sound (c .before .before .before .before .before .before .before .before), lt-leb _ _ (c .before .before .before .before .before .before .before .if2 .left), decides-same (used-decides _) (c .before .before .before .before .before .is-used .ensures) ∙ c .before .before .before .before .if3 .left, ne-eqb _ _ (c .before .before .before .if4 .left), ne-eqb _ _ (c .before .before .if5 .left), decides-same (names-test _ _) (c .before .names-missing .ensures) ∙ c .if6 .left) at (create-answers (c .before .before .before .before .before .before .before .before .before .before .args .t1) (c .before .before .before .before .before .before .before .before .before .before .args .slot) (c .before .before .before .before .before .before .before .before .before .before .args .priority) (c .before .before .before .before .before .before .before .before .before .before .args .mask) (c .before .before .before .before .before .before .before .before .before .sound .ensures))
+returns-7 c =
+    let fifth = c .before .before in
+    let fourth = fifth .before in
+    let third = fourth .before in
+    let second = third .before .before .before in
+    let first = second .before in
+    let a = first .before .before .args in
+    simp (sound first, lt-leb _ _ (second .if2 .left), decides-same (used-decides _) (third .before .is-used .ensures) ∙ third .if3 .left, ne-eqb _ _ (fourth .if4 .left), ne-eqb _ _ (fifth .if5 .left), decides-same (names-test _ _) (c .before .names-missing .ensures) ∙ c .if6 .left) at (create-answers (a .t1) (a .slot) (a .priority) (a .mask) (first .before .sound .ensures))
 
 pub create-answer-spec : {M : Type 1} → statement M
 create-answer-spec =

@@ -21,11 +21,16 @@ sound-requires c κs = search needs
 
 returns : tie.Need-returns
 unfolding firstOf
-returns c = simp (unsound c) at (delete-answers (c .before .before .args .t1) (c .before .before .args .slot) (c .before .sound .ensures))
+returns c =
+    let a = c .before .before .args in
+    simp (unsound c) at (delete-answers (a .t1) (a .slot) (c .before .sound .ensures))
 
 returns-2 : tie.Need-returns-2
 unfolding firstOf
-returns-2 c = simp (sound (c .before), le-leb _ _ (c .if2 .taken)) at (delete-answers (c .before .before .before .args .t1) (c .before .before .before .args .slot) (c .before .before .sound .ensures))
+returns-2 c =
+    let first = c .before in
+    let a = first .before .before .args in
+    simp (sound first, le-leb _ _ (c .if2 .taken)) at (delete-answers (a .t1) (a .slot) (first .before .sound .ensures))
 
 mul-t : tie.Need-mul-t
 mul-t c = search needs
@@ -38,18 +43,32 @@ is-used-requires c κs = search needs
 
 returns-3 : tie.Need-returns-3
 unfolding firstOf
-returns-3 c = simp (sound (c .before .before .before .before), lt-leb _ _ (c .before .before .before .if2 .left), empty-is (c .before .is-used .ensures) (c .if3 .taken)) at (delete-answers (c .before .before .before .before .before .before .args .t1) (c .before .before .before .before .before .before .args .slot) (c .before .before .before .before .before .sound .ensures))
+returns-3 c =
+    let second = c .before .before .before in
+    let first = second .before in
+    let a = first .before .before .args in
+    simp (sound first, lt-leb _ _ (second .if2 .left), empty-is (c .before .is-used .ensures) (c .if3 .taken)) at (delete-answers (a .t1) (a .slot) (first .before .sound .ensures))
 
 is-ready-requires : tie.Need-is-ready-requires
 is-ready-requires c κs = search needs
 
 returns-4 : tie.Need-returns-4
 unfolding firstOf
-returns-4 c = simp (sound (c .before .before .before .before .before .before), lt-leb _ _ (c .before .before .before .before .before .if2 .left), empty-is (c .before .before .before .is-used .ensures) (c .before .before .if3 .left), decides-same (ready-decides _ _) (c .before .is-ready .ensures) ∙ c .if4 .taken) at (delete-answers (c .before .before .before .before .before .before .before .before .args .t1) (c .before .before .before .before .before .before .before .before .args .slot) (c .before .before .before .before .before .before .before .sound .ensures))
+returns-4 c =
+    let third = c .before .before in
+    let second = third .before .before .before in
+    let first = second .before in
+    let a = first .before .before .args in
+    simp (sound first, lt-leb _ _ (second .if2 .left), empty-is (third .before .is-used .ensures) (third .if3 .left), decides-same (ready-decides _ _) (c .before .is-ready .ensures) ∙ c .if4 .taken) at (delete-answers (a .t1) (a .slot) (first .before .sound .ensures))
 
 returns-5 : tie.Need-returns-5
 unfolding firstOf
-returns-5 c = simp (sound (c .before .before .before .before .before .before), lt-leb _ _ (c .before .before .before .before .before .if2 .left), empty-is (c .before .before .before .is-used .ensures) (c .before .before .if3 .left), decides-same (ready-decides _ _) (c .before .is-ready .ensures) ∙ c .if4 .left) at (delete-answers (c .before .before .before .before .before .before .before .before .args .t1) (c .before .before .before .before .before .before .before .before .args .slot) (c .before .before .before .before .before .before .before .sound .ensures))
+returns-5 c =
+    let third = c .before .before in
+    let second = third .before .before .before in
+    let first = second .before in
+    let a = first .before .before .args in
+    simp (sound first, lt-leb _ _ (second .if2 .left), empty-is (third .before .is-used .ensures) (third .if3 .left), decides-same (ready-decides _ _) (c .before .is-ready .ensures) ∙ c .if4 .left) at (delete-answers (a .t1) (a .slot) (first .before .sound .ensures))
 
 pub delete-answer-spec : {M : Type 1} → statement M
 delete-answer-spec =
