@@ -93,6 +93,12 @@ nothing-decides (At k) h = decides-false (λ t. h .fails (t k (h .below)))
 nothing-decides Nothing h = decides-true h
 
 -- and it has one
+pub counted-same : (n : ℕ) (f g : Found) → FindsCount n f → FindsCount n g → f ≡ g
+counted-same n (At j) (At k) a b = ap At (a .0 ∙ sym (b .0))
+counted-same n (At j) Nothing a b = absurd (a .1 b)
+counted-same n Nothing (At k) a b = absurd (b .1 a)
+counted-same n Nothing Nothing a b = refl
+
 pub finds-same : (n : ℕ) (Kept : ℕ → Type 0) (f g : Found) → Finds n Kept f → Finds n Kept g → f ≡ g
 finds-same n Kept (At j) (At k) a b = ap At (lowest-same a b)
 finds-same n Kept (At j) Nothing a b = absurd (a .fails (b j (a .below)))

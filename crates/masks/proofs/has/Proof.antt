@@ -1,5 +1,5 @@
 -- `masks::has` meets its promise: a word has no bit at or above its width.
-use mathlib.Core.Path.{sym}
+use mathlib.Core.Path.{refl, sym}
 use borrow.Author.Needs.{needs}
 use Rattle.masks.specs.Masks.{width}
 use Rattle.masks.proofs.Bits.{has-beyond}
@@ -13,7 +13,7 @@ shr-result : tie.Need-shr-result
 shr-result c = search needs
 
 returns : tie.Need-returns
-returns c = search needs
+returns c = refl
 
 returns-2 : tie.Need-returns-2
 returns-2 c = sym (has-beyond width (c .before .args .mask) (c .before .args .core) (c .before .fits .mask .fits) (c .if1 .left))
