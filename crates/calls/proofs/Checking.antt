@@ -6,7 +6,8 @@ use mathlib.Core.List.{List, [], _∷_}
 use lib.ListN.{take}
 use lib.Dec.{eqb, leb}
 use borrow.Author.Tests.{eqb-true, leb-true}
-use Rattle.laws.proofs.Deciding.{clash, anyBelow}
+use Rattle.laws.specs.Counting.{anyBelow}
+use Rattle.laws.proofs.Deciding.{clash}
 use Rattle.dispatcher.specs.Limits.{greatestPriority}
 use Rattle.dispatcher.specs.Slots.{Shaped}
 use Rattle.dispatcher.specs.Sound.{Sound}

@@ -4,7 +4,8 @@ use mathlib.Core.Path.{_≡_, sym, ap, _∙_}
 use mathlib.Core.Bool.{Bool, not, _&&_, Bool·not-not}
 use lib.Dec.{eqb, ltb, leb}
 use Rattle.laws.specs.Decides.{Decides}
-use Rattle.laws.proofs.Deciding.{decides-same, decides-by, decides-not, decides-and, decides-eq, decides-lt, decides-le, anyBelow, decides-any}
+use Rattle.laws.specs.Counting.{anyBelow}
+use Rattle.laws.proofs.Deciding.{decides-same, decides-by, decides-not, decides-and, decides-eq, decides-lt, decides-le, decides-any}
 use Rattle.dispatcher.specs.Limits.{coreLimit, slotLimit, LegalCount}
 use Rattle.dispatcher.specs.Slots.{orderAt, Empty, Used, Ready}
 use Rattle.dispatcher.specs.declared.Task.{Task}

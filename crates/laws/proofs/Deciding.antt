@@ -8,6 +8,7 @@ use native.Mathlib.Omega.{arith}
 use lib.Dec.{eqb, ltb, leb}
 use borrow.Author.Tests.{eqb-true, eqb-false, ltb-true, ltb-false, leb-true, leb-false}
 use Rattle.laws.specs.Decides.{Decides}
+use Rattle.laws.specs.Counting.{anyBelow}
 
 pub clash {ℓ} : {A : Type ℓ} {b : Bool} → b ≡ true → b ≡ false → A
 clash t f = absurd (true≢false (sym t ∙ f))
@@ -54,11 +55,6 @@ decides-lt a b = record { yes = ltb-true a b; no = λ f l. let g = ltb-false a b
 
 pub decides-le : (a b : ℕ) → Decides (a ≤ b) (leb a b)
 decides-le a b = record { yes = leb-true a b; no = λ f l. let g = leb-false a b f in omega arith }
-
--- whether a test is true of some number below n
-unfoldable pub anyBelow : (ℕ → Bool) → ℕ → Bool
-anyBelow f zero = false
-anyBelow f (suc n) = let rest = anyBelow f n in f n || rest
 
 pub decides-any : {P : ℕ → Type 0} {f : ℕ → Bool} (n : ℕ) → ((k : ℕ) → k < n → Decides (P k) (f k)) → Decides ((k : ℕ) × (k < n) × P k) (anyBelow f n)
 unfolding anyBelow

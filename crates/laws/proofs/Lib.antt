@@ -1,3 +1,5 @@
 pub mod Deciding
+pub mod Testing
 pub mod Lists
 pub mod Lowering
+pub mod Counting

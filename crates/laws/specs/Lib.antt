@@ -1,2 +1,4 @@
 pub mod Decides
 pub mod Lowest
+pub mod Lists
+pub mod Counting

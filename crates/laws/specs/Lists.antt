@@ -1,0 +1,18 @@
+-- Lists of numbers: who stands in one, that none stands in it twice, and the last of one that is not empty.
+use Prim.Native.Nat.{ℕ}
+use mathlib.Core.Path.{_≡_}
+use mathlib.Core.Logic.{_⊎_}
+use mathlib.Core.List.{List, [], _∷_}
+
+abbrev pub In : ℕ → List ℕ → Type 0
+In a [] = ⊥
+In a (b ∷ l) = (a ≡ b) ⊎ In a l
+
+abbrev pub Distinct : List ℕ → Type 0
+Distinct [] = Unit {0}
+Distinct (c ∷ p) = (In c p → ⊥) × Distinct p
+
+-- the last of c ∷ p
+abbrev pub last : ℕ → List ℕ → ℕ
+last c [] = c
+last c (d ∷ p) = last d p

@@ -1,0 +1,9 @@
+pub mod Running
+pub mod Chain
+pub mod Reached
+pub mod Moved
+pub mod Chosen
+pub mod Taking
+pub mod Arrival
+pub mod Filling
+pub mod Strong
