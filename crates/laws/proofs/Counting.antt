@@ -10,8 +10,8 @@ use native.Mathlib.Omega.{arith}
 use lib.ListN.{length}
 use lib.Dec.{eqb}
 use Rattle.laws.specs.Lists.{In, Distinct, last}
-use Rattle.laws.specs.Counting.{bit, count}
-use Rattle.laws.proofs.Deciding.{cases, clash}
+use Rattle.laws.specs.Counting.{anyBelow, bit, count}
+use Rattle.laws.proofs.Deciding.{cases, clash, decides-any}
 use Rattle.laws.proofs.Testing.{eqb-true, eqb-false}
 
 -- ---- lists
@@ -167,3 +167,15 @@ find f (suc n) = go (cases (f n)) (find f n)
         at : (c : ℕ) → c < suc n → Dec (c ≡ n) → f c ≡ false
         at c l (yes e) = rw e t
         at c l (no k) = r c (omega arith)
+
+-- ---- some number below n passes a test
+
+pub any-true : (f : ℕ → Bool) (n d : ℕ) → d < n → f d ≡ true → anyBelow f n ≡ true
+any-true f n d l h = go (cases (anyBelow f n))
+  where
+    go : (anyBelow f n ≡ true) ⊎ (anyBelow f n ≡ false) → anyBelow f n ≡ true
+    go (inl t) = t
+    go (inr t) = absurd (decides-any {P = λ k. f k ≡ true} {f = f} n (λ k m. record { yes = λ y. y; no = λ z y. clash y z }) .no t (d, l, h))
+
+pub any-find : (f : ℕ → Bool) (n : ℕ) → anyBelow f n ≡ true → (d : ℕ) × (d < n) × (f d ≡ true)
+any-find f n = decides-any {P = λ k. f k ≡ true} {f = f} n (λ k m. record { yes = λ y. y; no = λ z y. clash y z }) .yes

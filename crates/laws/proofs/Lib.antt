@@ -3,3 +3,4 @@ pub mod Testing
 pub mod Lists
 pub mod Lowering
 pub mod Counting
+pub mod Picking

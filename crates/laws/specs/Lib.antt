@@ -2,3 +2,4 @@ pub mod Decides
 pub mod Lowest
 pub mod Lists
 pub mod Counting
+pub mod Pick

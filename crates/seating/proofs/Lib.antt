@@ -1,0 +1,17 @@
+pub mod Update
+pub mod Shut
+pub mod Same
+pub mod Take
+pub mod Keep
+pub mod Moving
+pub mod Reach
+pub mod Best
+pub mod Rows
+pub mod Choice
+pub mod Near
+pub mod Find
+pub mod Ranks
+pub mod Rules
+pub mod Once
+pub mod Arriving
+pub mod Filling

@@ -7,3 +7,4 @@ pub mod Taking
 pub mod Arrival
 pub mod Filling
 pub mod Strong
+pub mod Least

@@ -1,0 +1,115 @@
+-- The first of some numbers in a row that pass a test, and what a loop over them wants.
+use mathlib.Core.Path.{_≡_, refl, sym, ap, ap₂, _∙_}
+use mathlib.Core.Logic.{_⊎_, inl, inr, _≢_}
+use mathlib.Core.Bool.{Bool, true, false, _&&_, cond}
+use Prim.Native.Nat.{ℕ, zero, suc, _+_, _-_, _≤_, _<_}
+use native.Mathlib.Omega.{arith}
+use lib.Dec.{ltb}
+use borrow.Author.Tests.{ltb-true, ltb-false}
+use Rattle.laws.proofs.Deciding.{cases, clash}
+
+-- the first of n numbers from i that p holds of, and i + n where it holds of none
+unfoldable pub first : (ℕ → Bool) → ℕ → ℕ → ℕ
+first p i zero = i
+first p i (suc n) = let r = first p (i + 1) n in cond (p i) i r
+
+-- r is the first from i and below m, or m
+pub record First (p : ℕ → Bool) (i m r : ℕ) : Type 0 where
+  pub low : i ≤ r
+  pub high : r ≤ m
+  pub passed : (d : ℕ) → i ≤ d → d < r → p d ≡ false
+  pub holds : r < m → p r ≡ true
+
+pub first-is : (p : ℕ → Bool) (i n : ℕ) → First p i (i + n) (first p i n)
+unfolding first
+first-is p i zero = record { low = omega arith; high = omega arith; passed = λ d l h. absurd (omega arith); holds = λ h. absurd (omega arith) }
+first-is p i (suc n) = go (p i) refl (first p (i + 1) n) (first-is p (i + 1) n)
+  where
+    go : (b : Bool) → p i ≡ b → (r : ℕ) → First p (i + 1) (i + 1 + n) r → First p i (i + suc n) (cond b i r)
+    go true e r f = record { low = omega arith; high = omega arith; passed = λ d l h. absurd (omega arith); holds = λ h. e }
+    go false e r f = record {
+      low = omega (arith, f .low);
+      high = omega (arith, f .high);
+      passed = λ d l h. at d l h (cases (ltb i d));
+      holds = λ h. f .holds (omega arith);
+    }
+      where
+        at : (d : ℕ) → i ≤ d → d < r → (ltb i d ≡ true) ⊎ (ltb i d ≡ false) → p d ≡ false
+        at d l h (inl t) = let k = ltb-true i d t in f .passed d (omega arith) h
+        at d l h (inr t) = let k = ltb-false i d t in let q : d ≡ i = omega arith in rw q e
+
+-- ---- the first below n
+
+pub first-holds : (p : ℕ → Bool) (n : ℕ) → first p 0 n < n → p (first p 0 n) ≡ true
+first-holds p n h = first-is p 0 n .holds (omega arith)
+
+pub first-hit : (p : ℕ → Bool) (n d : ℕ) → d < n → p d ≡ true → first p 0 n ≤ d
+first-hit p n d l h = go (cases (ltb d (first p 0 n)))
+  where
+    go : (ltb d (first p 0 n) ≡ true) ⊎ (ltb d (first p 0 n) ≡ false) → first p 0 n ≤ d
+    go (inl t) = clash h (first-is p 0 n .passed d (omega arith) (ltb-true d (first p 0 n) t))
+    go (inr t) = ltb-false d (first p 0 n) t
+
+pub first-le : (p : ℕ → Bool) (n : ℕ) → first p 0 n ≤ n
+first-le p n = let f = first-is p 0 n in omega (arith, f .high)
+
+pub first-none : (p : ℕ → Bool) (n d : ℕ) → n ≤ first p 0 n → d < n → p d ≡ false
+first-none p n d h l = first-is p 0 n .passed d (omega arith) (omega arith)
+
+pub first-ext : (p r : ℕ → Bool) (i n : ℕ) → ((j : ℕ) → j < i + n → p j ≡ r j) → first p i n ≡ first r i n
+unfolding first
+first-ext p r i zero h = refl
+first-ext p r i (suc n) h = ap₂ (λ (t : Bool) (k : ℕ). cond t i k) (h i (omega arith)) (first-ext p r (i + 1) n (λ j l. h j (omega arith)))
+
+-- ---- one number at a time, for a loop
+
+one-more : (i m : ℕ) → i < m → m - i ≡ suc (m - (i + 1))
+one-more i m h = omega arith
+
+none-left : (i m : ℕ) → m ≤ i → m - i ≡ 0
+none-left i m h = omega arith
+
+pub goes-on : (p : ℕ → Bool) (i m : ℕ) → i < m → p i ≡ false → first p i (m - i) ≡ first p (i + 1) (m - (i + 1))
+unfolding first
+goes-on p i m h e = rw (one-more i m h, e)
+
+pub stops : (p : ℕ → Bool) (i m : ℕ) → i < m → p i ≡ true → first p i (m - i) ≡ i
+unfolding first
+stops p i m h e = rw (one-more i m h, e)
+
+pub ends : (p : ℕ → Bool) (i m : ℕ) → m ≤ i → first p i (m - i) ≡ i
+unfolding first
+ends p i m h = rw (none-left i m h)
+
+pub begins : (p : ℕ → Bool) (m : ℕ) → first p 0 (m - 0) ≡ first p 0 m
+begins p m = ap (first p 0) all
+  where
+    all : m - 0 ≡ m
+    all = omega arith
+
+-- ---- over more numbers than the test can hold of
+
+module _ (p : ℕ → Bool) (n w : ℕ) (l : n ≤ w) (only : (d : ℕ) → p d ≡ true → d < n) where
+  pub first-wide : first p 0 w < w → (first p 0 w < n) × (first p 0 w ≡ first p 0 n)
+  first-wide h =
+      let t = first-holds p w h in
+      let b = only (first p 0 w) t in
+      let u = first-hit p n (first p 0 w) b t in
+      let v = first-hit p w (first p 0 n) (omega arith) (first-holds p n (omega arith)) in
+      (b, omega arith)
+
+  pub first-narrow : first p 0 n < n → first p 0 w ≡ first p 0 n
+  first-narrow h =
+      let u = first-hit p w (first p 0 n) (omega arith) (first-holds p n h) in
+      let f = first-wide (omega arith) in
+      f .1
+
+  pub first-wide-none : w ≤ first p 0 w → n ≤ first p 0 n
+  first-wide-none h = go (cases (ltb (first p 0 n) n))
+    where
+      go : (ltb (first p 0 n) n ≡ true) ⊎ (ltb (first p 0 n) n ≡ false) → n ≤ first p 0 n
+      go (inl t) =
+          let b = ltb-true (first p 0 n) n t in
+          let u = first-hit p w (first p 0 n) (omega arith) (first-holds p n b) in
+          absurd (omega arith)
+      go (inr t) = ltb-false (first p 0 n) n t
