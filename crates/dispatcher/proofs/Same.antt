@@ -12,7 +12,7 @@ use Rattle.dispatcher.specs.Reports.{stillOf}
 use Rattle.dispatcher.specs.Promise.{Promised}
 use Rattle.dispatcher.specs.Fresh.{Freshly}
 use Rattle.dispatcher.specs.declared.Answer.{Answer}
-use Rattle.dispatcher.specs.declared.Answer.the-variants.{Done, NotSound, CoreCount, SlotAbove, SlotInUse, SlotEmpty, PriorityZero, MaskEmpty, MissingCore, StillReady}
+use Rattle.dispatcher.specs.declared.Answer.the-variants.{Done, NotSound, CoreCount, SlotAbove, SlotInUse, SlotEmpty, PriorityZero, MaskEmpty, MissingCore, AlreadyReady, NotReady, StillReady}
 use Rattle.dispatcher.specs.declared.Dispatcher.{Dispatcher}
 use Rattle.dispatcher.specs.declared.Outcome.{Outcome}
 
@@ -21,7 +21,8 @@ use Rattle.dispatcher.specs.declared.Outcome.{Outcome}
 answerOf : ℕ → Answer
 answerOf n =
     cond (eqb n 0) Done (cond (eqb n 1) NotSound (cond (eqb n 2) CoreCount (cond (eqb n 3) SlotAbove (cond (eqb n 4) SlotInUse
-    (cond (eqb n 5) SlotEmpty (cond (eqb n 6) PriorityZero (cond (eqb n 7) MaskEmpty (cond (eqb n 8) MissingCore StillReady))))))))
+    (cond (eqb n 5) SlotEmpty (cond (eqb n 6) PriorityZero (cond (eqb n 7) MaskEmpty (cond (eqb n 8) MissingCore
+    (cond (eqb n 9) AlreadyReady (cond (eqb n 10) NotReady StillReady))))))))))
 
 answer-back : (a : Answer) → answerOf (numberOf a) ≡ a
 unfolding answerOf
@@ -34,6 +35,8 @@ answer-back SlotEmpty = refl
 answer-back PriorityZero = refl
 answer-back MaskEmpty = refl
 answer-back MissingCore = refl
+answer-back AlreadyReady = refl
+answer-back NotReady = refl
 answer-back StillReady = refl
 
 pub number-same : {a b : Answer} → numberOf a ≡ numberOf b → a ≡ b

@@ -4,7 +4,7 @@ use mathlib.Core.Path.{_≡_}
 use mathlib.Core.Logic.{_≢_, _⊎_}
 use mathlib.Core.List.{List, [], _∷_}
 use Rattle.dispatcher.specs.declared.Answer.{Answer}
-use Rattle.dispatcher.specs.declared.Answer.the-variants.{Done, NotSound, CoreCount, SlotAbove, SlotInUse, SlotEmpty, PriorityZero, MaskEmpty, MissingCore, StillReady}
+use Rattle.dispatcher.specs.declared.Answer.the-variants.{Done, NotSound, CoreCount, SlotAbove, SlotInUse, SlotEmpty, PriorityZero, MaskEmpty, MissingCore, AlreadyReady, NotReady, StillReady}
 
 infix 80 _when_
 abbrev pub numberOf : Answer → ℕ
@@ -17,6 +17,8 @@ numberOf SlotEmpty = 5
 numberOf PriorityZero = 6
 numberOf MaskEmpty = 7
 numberOf MissingCore = 8
+numberOf AlreadyReady = 9
+numberOf NotReady = 10
 numberOf StillReady = 11
 
 -- a row of the table: a number, and when it is given

@@ -39,6 +39,14 @@ IsMaskEmpty mask = mask ≡ 0
 abbrev pub IsMissingCore : Dispatcher → ℕ → Type 0
 IsMissingCore d mask = NamesMissing (d .cores) mask
 
+-- 9: already ready
+abbrev pub IsAlreadyReady : Dispatcher → ℕ → Type 0
+IsAlreadyReady d slot = Ready d slot
+
+-- 10: not ready
+abbrev pub IsNotReady : Dispatcher → ℕ → Type 0
+IsNotReady d slot = Ready d slot → ⊥
+
 -- 11: still ready
 abbrev pub IsStillReady : Dispatcher → ℕ → Type 0
 IsStillReady d slot = Ready d slot

@@ -52,6 +52,8 @@ pub enum Answer {
     PriorityZero,
     MaskEmpty,
     MissingCore,
+    AlreadyReady,
+    NotReady,
     StillReady,
 }
 
@@ -69,6 +71,8 @@ impl Answer {
             Answer::PriorityZero => 6,
             Answer::MaskEmpty => 7,
             Answer::MissingCore => 8,
+            Answer::AlreadyReady => 9,
+            Answer::NotReady => 10,
             Answer::StillReady => 11,
         }
     }

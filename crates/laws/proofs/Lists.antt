@@ -1,5 +1,5 @@
 -- Reading a list.
-use Prim.Native.Nat.{ℕ, zero, suc, _<_}
+use Prim.Native.Nat.{ℕ, zero, suc, _≤_, _<_}
 use mathlib.Core.Path.{_≡_, refl}
 use mathlib.Core.List.{List, [], _∷_}
 use native.Mathlib.Nat.{not-suc-le-zero, le-of-suc-le-suc}
@@ -10,3 +10,9 @@ pub getD-any : {A : Type 0} (l : List A) (i : ℕ) (a b : A) → i < length l �
 getD-any [] i a b h = absurd (not-suc-le-zero h)
 getD-any (x ∷ l) zero a b h = refl
 getD-any (x ∷ l) (suc i) a b h = getD-any l i a b (le-of-suc-le-suc h)
+
+-- beyond it nothing stands
+pub getD-beyond : {A : Type 0} (l : List A) (i : ℕ) (a : A) → length l ≤ i → getD l i a ≡ a
+getD-beyond [] i a h = refl
+getD-beyond (x ∷ l) zero a h = absurd (not-suc-le-zero h)
+getD-beyond (x ∷ l) (suc i) a h = getD-beyond l i a (le-of-suc-le-suc h)

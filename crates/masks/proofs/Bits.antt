@@ -13,10 +13,10 @@ use Rattle.laws.specs.Decides.{Decides}
 use Rattle.laws.proofs.Deciding.{clash, decides-by, decides-not, decides-eq}
 use Rattle.masks.specs.Masks.{has, NamesMissing, LegalMask}
 
-has-shifted : (m j k : ℕ) → has (m / 2 ^ j) k ≡ has m (j + k)
+pub has-shifted : (m j k : ℕ) → has (m / 2 ^ j) k ≡ has m (j + k)
 has-shifted m j k = ap (λ (n : ℕ). eqb (n % 2) 1) (shr-shr m j k)
 
-has-zero : (k : ℕ) → has 0 k ≡ false
+pub has-zero : (k : ℕ) → has 0 k ≡ false
 has-zero k = rw (zero-div (2 ^ k))
 
 -- no bit at or above the width
@@ -27,9 +27,9 @@ has-beyond w m k h l = rw (div-eq-of-lt (fits (pow-mono l)))
     fits p = omega arith
 
 -- a number other than 0 has a bit
-some-bit : (w m : ℕ) → m < 2 ^ w → m ≢ 0 → (k : ℕ) × (has m k ≡ true)
-some-bit zero m h n = absurd (n (omega arith))
-some-bit (suc w) m h n = go (ℕ-discrete (m % 2) 1) (some-bit w (m / 2) (omega (arith, pow-suc 2 w)))
+bit-under : (w m : ℕ) → m < 2 ^ w → m ≢ 0 → (k : ℕ) × (has m k ≡ true)
+bit-under zero m h n = absurd (n (omega arith))
+bit-under (suc w) m h n = go (ℕ-discrete (m % 2) 1) (bit-under w (m / 2) (omega (arith, pow-suc 2 w)))
   where
     go : Dec (m % 2 ≡ 1) → (m / 2 ≢ 0 → (k : ℕ) × (has (m / 2) k ≡ true)) → (k : ℕ) × (has m k ≡ true)
     go (yes e) rest = (0, eq-eqb (m / 2 ^ 0 % 2) 1 (omega arith))
@@ -41,9 +41,12 @@ below-power : (m : ℕ) → m < 2 ^ m
 below-power zero = omega arith
 below-power (suc m) = let h = below-power m in omega (arith, pow-suc 2 m)
 
+pub some-bit : (m : ℕ) → m ≢ 0 → (k : ℕ) × (has m k ≡ true)
+some-bit m = bit-under m m (below-power m)
+
 names-yes : (count m : ℕ) → m / 2 ^ count ≢ 0 → NamesMissing count m
 names-yes count m n =
-    let r = some-bit (m / 2 ^ count) (m / 2 ^ count) (below-power (m / 2 ^ count)) n in
+    let r = some-bit (m / 2 ^ count) n in
     record { core = count + r .0; missing = omega arith; named = sym (has-shifted m count (r .0)) ∙ r .1 }
 
 names-no : (count m : ℕ) → m / 2 ^ count ≡ 0 → NamesMissing count m → ⊥

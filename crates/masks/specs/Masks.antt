@@ -2,8 +2,8 @@
 use Prim.Native.Nat.{ℕ, _/_, _%_, _^_, _≤_, _<_}
 use mathlib.Core.Path.{_≡_}
 use mathlib.Core.Logic.{_≢_}
-use mathlib.Core.Bool.{Bool, true}
-use lib.Dec.{eqb}
+use mathlib.Core.Bool.{Bool, true, _||_, _&&_}
+use lib.Dec.{eqb, ltb}
 
 -- how many bits a mask has
 abbrev pub width : ℕ
@@ -22,3 +22,7 @@ pub record NamesMissing (count m : ℕ) : Type 0 where
 pub record LegalMask (count m : ℕ) : Type 0 where
   pub not-empty : m ≢ 0
   pub none-missing : (k : ℕ) → has m k ≡ true → k < count
+
+-- r has the cores of m, and the core c if a mask has such a bit
+pub record Added (m c r : ℕ) : Type 0 where
+  pub each : (k : ℕ) → has r k ≡ (has m k || (eqb k c && ltb c width))

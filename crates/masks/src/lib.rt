@@ -1,7 +1,7 @@
 // Sets of cores as masks: bit k for core k.
 ghost use mathlib.Core.Path.{_≡_};
 ghost use Rattle.laws.specs.Decides.{Decides};
-ghost use Rattle.masks.specs.Masks.{has, NamesMissing};
+ghost use Rattle.masks.specs.Masks.{has, NamesMissing, Added};
 
 // The bits of a mask, and so the most cores that a set can name.
 pub const WIDTH: usize = 32;
@@ -25,5 +25,16 @@ pub fn names_missing(mask: u32, count: u8) -> bool
         (mask >> count) != 0
     } else {
         false
+    }
+}
+
+// The mask with the core in it; a core that no mask has is left out.
+pub fn add(mask: u32, core: usize) -> u32
+    ensures { λ r. ⌜ Added mask core r ⌝ }
+{
+    if core < WIDTH {
+        mask | (1u32 << core)
+    } else {
+        mask
     }
 }

@@ -103,4 +103,3 @@ module _ {n e : ℕ} {may : ℕ → ℕ → Bool} {rank : ℕ → ℕ} {R : ℕ 
         near : (d : ℕ) (q : List ℕ) → Chain n e may s h d q → (s (last d q) ≡ e) ⊎ (s (last d q) ≡ s (last c p)) → length p ≤ length q
         near d q g (inl i) = short d q g i
         near d q g (inr i) = short d q g (i ∙ ap s to-z ∙ H .idle)
-

@@ -321,4 +321,3 @@ module _ {n e : ℕ} {may : ℕ → ℕ → Bool} {rank : ℕ → ℕ} {R R′ :
         ready = less w (u .ready) .0;
         off = λ r. u .off (record { real = r .real; core = r .core; below = r .below; sits = off (r .core) (λ j. less w (u .ready) .1 (sym (r .sits) ∙ ap s j)) ∙ r .sits });
       })
-

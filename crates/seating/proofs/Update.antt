@@ -16,4 +16,3 @@ upd-same s c x = rw (eqb-true (refl {a = c}))
 pub upd-other : (s : ℕ → ℕ) (c x : ℕ) {d : ℕ} → d ≢ c → upd s c x d ≡ s d
 unfolding upd
 upd-other s c x {d} h = rw (eqb-false h)
-

@@ -14,11 +14,11 @@ use Rattle.dispatcher.specs.Limits.{coreLimit, slotLimit, none, LegalCount}
 use Rattle.dispatcher.specs.Slots.{taskAt, orderAt, seatAt, Used}
 use Rattle.dispatcher.specs.Sound.{Entered, PlaceKept, SeatKept}
 use Rattle.dispatcher.specs.declared.Dispatcher.{Dispatcher}
+use Rattle.order.specs.Places.{FirstPlace}
+use Rattle.order.proofs.Placing.{first-here, here-first, first-stands, stands-first}
 use Rattle.soundness.specs.Found.{isNothing, FindsCount, Finds}
-use Rattle.soundness.specs.Places.{First}
 use Rattle.soundness.specs.declared.Found.{Found}
 use Rattle.soundness.specs.declared.Found.the-variants.{At, Nothing}
-use Rattle.soundness.proofs.Placing.{first-here, here-first, first-stands, stands-first}
 
 -- ---- a gap before place k
 
@@ -40,7 +40,7 @@ gap-on d k n = decides-by (λ x. (x .0, omega (arith, x .1), x .2)) (λ x. go x 
 
 -- ---- a place of the wake order
 
-module _ (d : Dispatcher) {k v p : ℕ} {g : Bool} (below : k < slotLimit) (holds : orderAt d k ≡ v) (small : v < slotLimit) (f : First (orderAt d) 0 slotLimit v p)
+module _ (d : Dispatcher) {k v p : ℕ} {g : Bool} (below : k < slotLimit) (holds : orderAt d k ≡ v) (small : v < slotLimit) (f : FirstPlace (orderAt d) 0 slotLimit v p)
     (gap : Decides (GapBefore d k) g) where
   pub entry-decides : {r : Bool} → Decides ((Used (taskAt d v)) × (p ≡ k) × (g ≡ false)) r → Decides (PlaceKept d k) r
   entry-decides = decides-by
@@ -64,8 +64,8 @@ entry-unused d k e n = absurd (n e)
 
 -- ---- a core
 
-module _ (d : Dispatcher) {c v p q : ℕ} (below : c < coreLimit) (holds : seatAt d c ≡ v) (small : v < slotLimit) (f : First (orderAt d) 0 slotLimit v p)
-    (s : First (seatAt d) 0 coreLimit v q) where
+module _ (d : Dispatcher) {c v p q : ℕ} (below : c < coreLimit) (holds : seatAt d c ≡ v) (small : v < slotLimit) (f : FirstPlace (orderAt d) 0 slotLimit v p)
+    (s : FirstPlace (seatAt d) 0 coreLimit v q) where
   pub seat-decides : {r : Bool} → Decides ((p ≢ none) × (q ≡ c) × (has (taskAt d v .mask) c ≡ true)) r → Decides (SeatKept d c) r
   seat-decides = decides-by
       (λ h o. record {

@@ -3,14 +3,12 @@
 ghost use mathlib.Core.Path.{_≡_};
 ghost use mathlib.Core.Logic.{_≢_};
 ghost use mathlib.Core.Bool.{true, false};
-ghost use Prim.Native.Nat.{_≤_};
-ghost use lib.ListN.{length};
 ghost use Rattle.laws.specs.Decides.{Decides};
 ghost use Rattle.masks.specs.Masks.{has};
 ghost use Rattle.dispatcher.specs.Limits.{coreLimit, slotLimit, none};
 ghost use Rattle.dispatcher.specs.Slots.{Used};
 ghost use Rattle.dispatcher.specs.Sound.{LegalTask, SlotKept, PlaceKept, MissingKept, SeatKept, Sound};
-ghost use Rattle.soundness.specs.Places.{FirstPlaces};
+ghost use Rattle.order.specs.Places.{FirstPlaces};
 ghost use Rattle.soundness.specs.Found.{isNothing, FindsCount, Finds};
 use dispatcher::Dispatcher;
 use dispatcher::Task;
@@ -70,23 +68,6 @@ fn illegal_slot(d: Dispatcher) -> Found
         s += 1;
     }
     Found::Nothing
-}
-
-// For each slot the first place of the list at which it stands, or NONE: what was seen is marked, and no two places are compared.
-fn first_places(list: &[u16]) -> [u16; Dispatcher::SLOTS]
-    requires { ⌜ length (now list) ≤ slotLimit ⌝ }
-    ensures { λ r. ⌜ FirstPlaces (now (list .entry)) r ⌝ }
-{
-    let mut places = [Dispatcher::NONE; Dispatcher::SLOTS];
-    let mut i = list.len();
-    while 0 < i {
-        i -= 1;
-        let slot = list[i] as usize;
-        if slot < Dispatcher::SLOTS {
-            places[slot] = i as u16;
-        }
-    }
-    places
 }
 
 fn entry_kept(t: Task, place: u16, k: usize, gap: bool) -> bool
@@ -161,7 +142,7 @@ fn misseated(d: Dispatcher, places: &[u16; Dispatcher::SLOTS]) -> Found
     ensures { λ r. ⌜ Finds coreLimit (SeatKept d) r ⌝ }
 {
     let seats = d.seats;
-    let firsts = first_places(&seats);
+    let firsts = order::first_places(&seats);
     let mut c: usize = 0;
     while c < Dispatcher::CORES {
         let sits = d.seats[c];
@@ -195,7 +176,7 @@ pub fn sound(d: Dispatcher) -> bool
         return false;
     }
     let order = d.order;
-    let places = first_places(&order);
+    let places = order::first_places(&order);
     if !is_nothing(misplaced(d, &places)) {
         return false;
     }

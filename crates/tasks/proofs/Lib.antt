@@ -2,3 +2,4 @@ mod Settling
 pub mod Model
 pub mod Same
 pub mod Keeping
+pub mod Naming

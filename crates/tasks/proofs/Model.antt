@@ -1,8 +1,8 @@
 -- What create and delete do, as functions that compute, over what the test of soundness says; and that they meet the promises.
-use Prim.Native.Nat.{ℕ, _/_, _^_}
+use Prim.Native.Nat.{ℕ, _/_, _^_, _<_}
 use mathlib.Core.Path.{refl}
 use mathlib.Core.Bool.{Bool, not, cond}
-use mathlib.Core.List.{List, [], _∷_}
+use mathlib.Core.List.{List, [], _∷_, _++_}
 use native.Mathlib.Omega.{arith}
 use lib.Dec.{eqb, leb}
 use borrow.Author.Tests.{eq-eqb, ne-eqb}
@@ -12,7 +12,7 @@ use Rattle.masks.proofs.Bits.{names-test}
 use Rattle.dispatcher.specs.Limits.{slotLimit}
 use Rattle.dispatcher.specs.Slots.{noTask, taskAt}
 use Rattle.dispatcher.specs.Sound.{Sound}
-use Rattle.dispatcher.specs.Answers.{numberOf, Answers}
+use Rattle.dispatcher.specs.Answers.{numberOf, _when_, Answers}
 use Rattle.dispatcher.specs.Reports.{stillOf}
 use Rattle.dispatcher.specs.declared.Answer.{Answer}
 use Rattle.dispatcher.specs.declared.Answer.the-variants.{NotSound, SlotAbove, SlotInUse, SlotEmpty, PriorityZero, MaskEmpty, MissingCore, StillReady}
@@ -22,8 +22,9 @@ use Rattle.dispatcher.specs.declared.Outcome.{Outcome}
 use Rattle.dispatcher.proofs.Judging.{Test, test, firstOf, judged}
 use Rattle.dispatcher.proofs.Testing.{emptyTest, empty-decides, used-decides, readyTest, ready-decides}
 use Rattle.tasks.specs.Table.{withTask, Settles}
+use Rattle.tasks.specs.Named.{namedRefusals}
 use Rattle.tasks.specs.Create.{createRefusals, Creates}
-use Rattle.tasks.specs.Delete.{deleteRefusals, Deletes}
+use Rattle.tasks.specs.Delete.{Deletes}
 use Rattle.tasks.proofs.Settling.{settles-promised}
 
 -- ---- the answers
@@ -67,31 +68,22 @@ create-answers {b} d slot priority mask s =
       ),
     )
 
-abbrev pub deleteTests : Bool → Dispatcher → ℕ → List Test
-deleteTests sound d slot =
+-- the tests of every call on the task in a slot, and one more
+abbrev pub namedTests : Bool → Dispatcher → ℕ → List Test → List Test
+namedTests sound d slot more =
     test (not sound) NotSound ∷
     test (leb slotLimit slot) SlotAbove ∷
-    test (emptyTest (taskAt d slot)) SlotEmpty ∷
-    test (readyTest d slot) StillReady ∷ []
+    test (emptyTest (taskAt d slot)) SlotEmpty ∷ more
 
-pub delete-answers : {b : Bool} (d : Dispatcher) (slot : ℕ) → Decides (Sound d) b → Answers (deleteRefusals d slot) (numberOf (firstOf (deleteTests b d slot)))
-delete-answers {b} d slot s =
-    judged 0 (deleteRefusals d slot) (deleteTests b d slot) (
-      decides-not s,
-      refl,
-      omega arith,
-      (
-        decides-le slotLimit slot,
-        refl,
-        omega arith,
-        (
-          empty-decides (taskAt d slot),
-          refl,
-          omega arith,
-          (ready-decides d slot, refl, omega arith, tt),
-        ),
-      ),
-    )
+pub named-answers : {b : Bool} (d : Dispatcher) (slot : ℕ) → Decides (Sound d) b → Answers (namedRefusals d slot) (numberOf (firstOf (namedTests b d slot [])))
+named-answers {b} d slot s =
+    judged 0 (namedRefusals d slot) (namedTests b d slot []) (decides-not s, refl, omega arith, (decides-le slotLimit slot, refl, omega arith, (empty-decides (taskAt d slot), refl, omega arith, tt)))
+
+pub named-and : {b : Bool} (d : Dispatcher) (slot : ℕ) {P : Type 0} {f : Bool} (a : Answer) → Decides (Sound d) b → Decides P f → 5 < numberOf a
+    → Answers (namedRefusals d slot ++ (numberOf a when P ∷ [])) (numberOf (firstOf (namedTests b d slot (test f a ∷ []))))
+named-and {b} d slot {P} {f} a s p l =
+    judged 0 (namedRefusals d slot ++ (numberOf a when P ∷ [])) (namedTests b d slot (test f a ∷ []))
+    (decides-not s, refl, omega arith, (decides-le slotLimit slot, refl, omega arith, (empty-decides (taskAt d slot), refl, omega arith, (p, refl, l, tt))))
 
 -- ---- the calls
 
@@ -109,7 +101,8 @@ pub create-creates : {b : Bool} (d : Dispatcher) (slot priority mask : ℕ) → 
 create-creates {b} d slot priority mask s = settles-promised (create-answers d slot priority mask s) (settled-settles (firstOf (createTests b d slot priority mask)))
 
 abbrev pub deleteOf : Bool → Dispatcher → ℕ → Outcome
-deleteOf sound d slot = settled (firstOf (deleteTests sound d slot)) d (withTask d slot noTask)
+deleteOf sound d slot = settled (firstOf (namedTests sound d slot (test (readyTest d slot) StillReady ∷ []))) d (withTask d slot noTask)
 
 pub delete-deletes : {b : Bool} (d : Dispatcher) (slot : ℕ) → Decides (Sound d) b → Deletes d slot (deleteOf b d slot)
-delete-deletes {b} d slot s = settles-promised (delete-answers d slot s) (settled-settles (firstOf (deleteTests b d slot)))
+delete-deletes {b} d slot s =
+    settles-promised (named-and d slot StillReady s (ready-decides d slot) (omega arith)) (settled-settles (firstOf (namedTests b d slot (test (readyTest d slot) StillReady ∷ []))))

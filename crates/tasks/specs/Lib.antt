@@ -1,3 +1,4 @@
 pub mod Table
+pub mod Named
 pub mod Create
 pub mod Delete

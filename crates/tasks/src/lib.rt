@@ -4,6 +4,7 @@ ghost use Prim.Native.Nat.{_<_};
 ghost use Rattle.dispatcher.specs.Limits.{slotLimit};
 ghost use Rattle.dispatcher.specs.Answers.{numberOf, Answers};
 ghost use Rattle.tasks.specs.Table.{Settles};
+ghost use Rattle.tasks.specs.Named.{namedRefusals};
 ghost use Rattle.tasks.specs.Create.{createRefusals, Creates};
 ghost use Rattle.tasks.specs.Delete.{deleteRefusals, Deletes};
 use dispatcher::Answer;
@@ -39,8 +40,9 @@ fn create_answer(d: Dispatcher, slot: u16, priority: u8, mask: u32) -> Answer
     Answer::Done
 }
 
-fn delete_answer(d: Dispatcher, slot: u16) -> Answer
-    ensures { λ r. ⌜ Answers (deleteRefusals d slot) (numberOf r) ⌝ }
+// What every call on the task in a slot refuses first.
+pub fn named(d: Dispatcher, slot: u16) -> Answer
+    ensures { λ r. ⌜ Answers (namedRefusals d slot) (numberOf r) ⌝ }
 {
     if !soundness::sound(d) {
         return Answer::NotSound;
@@ -52,6 +54,16 @@ fn delete_answer(d: Dispatcher, slot: u16) -> Answer
     let t = d.tasks[at];
     if !t.is_used() {
         return Answer::SlotEmpty;
+    }
+    Answer::Done
+}
+
+fn delete_answer(d: Dispatcher, slot: u16) -> Answer
+    ensures { λ r. ⌜ Answers (deleteRefusals d slot) (numberOf r) ⌝ }
+{
+    let answer = named(d, slot);
+    if answer.number() != 0 {
+        return answer;
     }
     if d.is_ready(slot) {
         return Answer::StillReady;

@@ -62,7 +62,7 @@ slice-aggregate-first-places : tie.Need-slice-aggregate-first-places Inv-loop μ
 slice-aggregate-first-places c = search needs
 
 first-places-requires : tie.Need-first-places-requires Inv-loop μ-loop
-first-places-requires c κs = omega (arith, seats-long (c .before .before))
+first-places-requires c κs = search needs
 
 loop-holds : tie.Need-loop-holds Inv-loop μ-loop
 loop-holds c = (omega arith, λ j l. absurd (omega arith))

@@ -1,19 +1,13 @@
 -- `sound` meets its promise: it is true where each of the five searches finds nothing.
-use mathlib.Core.Path.{_≡_, sym}
-use native.Mathlib.Omega.{arith}
-use lib.ListN.{length, length-map}
+use mathlib.Core.Path.{sym}
 use borrow.Author.Tests.{not-true, not-false}
 use borrow.Author.Needs.{needs}
 use Rattle.laws.specs.Decides.{Decides}
 use Rattle.laws.proofs.Deciding.{decides-is, decides-false, decides-by}
-use Rattle.dispatcher.specs.Limits.{slotLimit}
 use Rattle.dispatcher.specs.Sound.{CountLegal, SlotsLegal, OrderKept, MissingIdle, SeatsKept}
 use Rattle.soundness.proofs.Keeping.{counted-decides, nothing-decides}
 use Rattle.soundness.proofs.sound.Tie as tie
 use Rattle.soundness.proofs.sound.Statement.{statement}
-
-order-long : (e : tie.Start) → length (e .args .d .order) ≡ slotLimit
-order-long e = simp length-map at (e .good .0 .1 .1 .1 .1 .0 .1 .0 .1)
 
 -- what each search's test decides
 count : (c : tie.After-is-nothing) → Decides (CountLegal (c .before .before .args .d)) (c .is-nothing .result)
@@ -53,7 +47,7 @@ slice-aggregate-first-places : tie.Need-slice-aggregate-first-places
 slice-aggregate-first-places c = search needs
 
 first-places-requires : tie.Need-first-places-requires
-first-places-requires c κs = omega (arith, order-long (c .before .before .before .before .before .before .before .before))
+first-places-requires c κs = search needs
 
 misplaced-requires : tie.Need-misplaced-requires
 misplaced-requires c κs = search needs

@@ -1,86 +1,33 @@
--- `delete_answer` meets its promise: each return is the first test of the model's list that is true.
-use mathlib.Core.Path.{_≡_, _∙_}
-use mathlib.Core.Bool.{true, false}
-use borrow.Author.Tests.{not-true, not-false, le-leb, lt-leb}
+-- `delete_answer` meets its promise.
+use mathlib.Core.Path.{sym, _∙_}
+use native.Mathlib.Omega.{arith}
 use borrow.Author.Needs.{needs}
-use Rattle.laws.proofs.Deciding.{decides-same}
-use Rattle.dispatcher.proofs.Judging.{firstOf}
-use Rattle.dispatcher.proofs.Testing.{empty-is, ready-decides}
-use Rattle.tasks.proofs.Model.{delete-answers}
+use Rattle.dispatcher.proofs.Promises.{answers-one, answers-none}
+use Rattle.tasks.proofs.Naming.{named-refused, named-then}
 use Rattle.tasks.proofs.delete_answer.Tie as tie
 use Rattle.tasks.proofs.delete_answer.Statement.{statement}
 
-unsound : (c : tie.Then1) → c .before .sound .result ≡ false
-unsound c = not-true _ (c .if1 .taken)
+named-requires : tie.Need-named-requires
+named-requires c κs = search needs
 
-sound : (c : tie.Else1) → c .before .sound .result ≡ true
-sound c = not-false _ (c .if1 .left)
-
-sound-requires : tie.Need-sound-requires
-sound-requires c κs = search needs
+number-requires : tie.Need-number-requires
+number-requires c κs = search needs
 
 returns : tie.Need-returns
-unfolding firstOf
-returns c =
-    let a = c .before .before .args in
-    simp (unsound c) at (delete-answers (a .t1) (a .slot) (c .before .sound .ensures))
-
-returns-2 : tie.Need-returns-2
-unfolding firstOf
-returns-2 c =
-    let first = c .before in
-    let a = first .before .before .args in
-    simp (sound first, le-leb _ _ (c .if2 .taken)) at (delete-answers (a .t1) (a .slot) (first .before .sound .ensures))
-
-mul-t : tie.Need-mul-t
-mul-t c = search needs
-
-element-copy-out-t : tie.Need-element-copy-out-t
-element-copy-out-t c = search needs
-
-is-used-requires : tie.Need-is-used-requires
-is-used-requires c κs = search needs
-
-returns-3 : tie.Need-returns-3
-unfolding firstOf
-returns-3 c =
-    let second = c .before .before .before in
-    let first = second .before in
-    let a = first .before .before .args in
-    simp (sound first, lt-leb _ _ (second .if2 .left), empty-is (c .before .is-used .ensures) (c .if3 .taken)) at (delete-answers (a .t1) (a .slot) (first .before .sound .ensures))
+returns c = named-refused 11 (omega arith) (c .before .before .named .ensures) (λ z. c .if1 .taken (c .before .number .ensures ∙ z))
 
 is-ready-requires : tie.Need-is-ready-requires
 is-ready-requires c κs = search needs
 
-returns-4 : tie.Need-returns-4
-unfolding firstOf
-returns-4 c =
-    let third = c .before .before in
-    let second = third .before .before .before in
-    let first = second .before in
-    let a = first .before .before .args in
-    simp (sound first, lt-leb _ _ (second .if2 .left), empty-is (third .before .is-used .ensures) (third .if3 .left), decides-same (ready-decides _ _) (c .before .is-ready .ensures) ∙ c .if4 .taken) at (delete-answers (a .t1) (a .slot) (first .before .sound .ensures))
+returns-2 : tie.Need-returns-2
+returns-2 c =
+    let passed = c .before .before in
+    named-then 11 (passed .before .before .named .ensures) (sym (passed .before .number .ensures) ∙ passed .if1 .left) (answers-one 11 (omega arith) (c .before .is-ready .ensures .yes (c .if2 .taken)))
 
-returns-5 : tie.Need-returns-5
-unfolding firstOf
-returns-5 c =
-    let third = c .before .before in
-    let second = third .before .before .before in
-    let first = second .before in
-    let a = first .before .before .args in
-    simp (sound first, lt-leb _ _ (second .if2 .left), empty-is (third .before .is-used .ensures) (third .if3 .left), decides-same (ready-decides _ _) (c .before .is-ready .ensures) ∙ c .if4 .left) at (delete-answers (a .t1) (a .slot) (first .before .sound .ensures))
+returns-3 : tie.Need-returns-3
+returns-3 c =
+    let passed = c .before .before in
+    named-then 11 (passed .before .before .named .ensures) (sym (passed .before .number .ensures) ∙ passed .if1 .left) (answers-none 11 (c .before .is-ready .ensures .no (c .if2 .left)))
 
 pub delete-answer-spec : {M : Type 1} → statement M
-delete-answer-spec =
-    tie.close
-    (tie.spec
-    sound-requires
-    returns
-    returns-2
-    mul-t
-    element-copy-out-t
-    is-used-requires
-    returns-3
-    is-ready-requires
-    returns-4
-    returns-5)
+delete-answer-spec = tie.close (tie.spec named-requires number-requires returns is-ready-requires returns-2 returns-3)

@@ -1,22 +1,27 @@
 -- `first_places` meets its promise: going down the list, the table has the first place of each slot among the places passed.
 use Prim.Native.Nat.{_≤_, _-_}
+use mathlib.Core.Path.{_≡_}
+use mathlib.Core.Logic.{⊎-elim}
 use native.Mathlib.Omega.{arith}
-use lib.ListN.{length}
 use borrow.Author.Needs.{needs}
 use Rattle.laws.proofs.Lists.{getD-any}
 use Rattle.dispatcher.specs.Limits.{none}
-use Rattle.soundness.proofs.Placing.{Marked, marked-none, marked-slot, marked-other, marked-all}
-use Rattle.soundness.proofs.first_places.Tie as tie
-use Rattle.soundness.proofs.first_places.Statement.{statement}
+use Rattle.order.specs.Places.{placesOf}
+use Rattle.order.proofs.Placing.{Marked, marked-none, marked-slot, marked-other, marked-all}
+use Rattle.order.proofs.first_places.Tie as tie
+use Rattle.order.proofs.first_places.Statement.{statement}
 
 abbrev Inv-loop : tie.InvT-loop
-Inv-loop list places₀ i₀ places i = (i ≤ length list) × Marked list i places
+Inv-loop list places₀ i₀ places i = (i ≤ placesOf list) × Marked list i places
 
 abbrev μ-loop : tie.MeasureT-loop
 μ-loop list places₀ i₀ places i = i
 
 loop-holds : tie.Need-loop-holds Inv-loop μ-loop
-loop-holds c = (omega arith, marked-none (c .args .list .now))
+loop-holds c =
+    let l = c .before .args .list .now in
+    let e : c .if1 .i ≡ placesOf l = ⊎-elim (λ w. omega arith) (λ w. omega arith) (c .if1 .came) in
+    (omega arith, marked-none l e)
 
 sub-i : tie.Need-sub-i Inv-loop μ-loop
 sub-i c = search needs
@@ -28,7 +33,7 @@ shared-slice-read-slot : tie.Need-shared-slice-read-slot Inv-loop μ-loop
 shared-slice-read-slot c = search needs
 
 cast-slot : tie.Need-cast-slot Inv-loop μ-loop
-cast-slot c = omega (arith, c .shared-slice-known .given (c .before .before .loop .i - 1))
+cast-slot c = omega (arith, c .shared-slice-known .given (c .before .before .before .loop .i - 1))
 
 cast-places : tie.Need-cast-places Inv-loop μ-loop
 cast-places c = search needs
@@ -44,18 +49,18 @@ loop-less c = search needs
 
 loop-again : tie.Need-loop-again Inv-loop μ-loop
 loop-again c =
-    let l = c .before .before .before .loop in
-    let a = c .before .before .before .before .args .list .now in
-    (omega arith, marked-slot (c .before .before .loop-test .taken) (l .inv .0) (l .inv .1) (getD-any a (l .i - 1) none 0 (omega arith)) (c .if1 .taken))
+    let l = c .before .before .before .before .loop in
+    let a = c .before .before .before .before .before .before .args .list .now in
+    (omega arith, marked-slot (c .before .before .before .loop-test .taken) (l .inv .0) (l .inv .1) (getD-any a (l .i - 1) none 0 (omega arith)) (omega (arith, c .if2 .taken)))
 
 loop-less-2 : tie.Need-loop-less-2 Inv-loop μ-loop
 loop-less-2 c = search needs
 
 loop-again-2 : tie.Need-loop-again-2 Inv-loop μ-loop
 loop-again-2 c =
-    let l = c .before .before .before .loop in
-    let a = c .before .before .before .before .args .list .now in
-    (omega arith, marked-other (c .before .before .loop-test .taken) (l .inv .0) (l .inv .1) (getD-any a (l .i - 1) none 0 (omega arith)) (c .if1 .left))
+    let l = c .before .before .before .before .loop in
+    let a = c .before .before .before .before .before .before .args .list .now in
+    (omega arith, marked-other (c .before .before .before .loop-test .taken) (l .inv .0) (l .inv .1) (getD-any a (l .i - 1) none 0 (omega arith)) (omega (arith, c .if2 .left)))
 
 returns : tie.Need-returns Inv-loop μ-loop
 returns c = marked-all (c .loop-test .left) (c .before .loop .inv .1)

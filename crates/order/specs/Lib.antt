@@ -1,0 +1,4 @@
+pub mod Places
+pub mod ComesBefore
+pub mod Changes
+pub mod Ranks

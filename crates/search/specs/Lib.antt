@@ -1,0 +1,9 @@
+pub mod Sitters
+pub mod Route
+pub mod ReachedCores
+pub mod Leading
+pub mod Taken
+pub mod Marks
+pub mod Rounds
+pub mod Ready
+pub mod Spread
