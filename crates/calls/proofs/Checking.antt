@@ -8,6 +8,13 @@ use lib.Dec.{eqb, leb}
 use borrow.Author.Tests.{eqb-true, leb-true}
 use Rattle.laws.specs.Counting.{anyBelow}
 use Rattle.laws.proofs.Deciding.{clash}
+use Rattle.laws.proofs.Picking.{pick}
+use Rattle.seating.proofs.Rows.{first}
+use Rattle.seating.proofs.Take.{seats}
+use Rattle.seating.proofs.Near.{turn}
+use Rattle.seating.proofs.Find.{table, find, chosenOf}
+use Rattle.seating.proofs.Arriving.{arriveOf}
+use Rattle.seating.proofs.Filling.{fillOf}
 use Rattle.dispatcher.specs.Limits.{greatestPriority}
 use Rattle.dispatcher.specs.Slots.{Shaped}
 use Rattle.dispatcher.specs.Sound.{Sound}
@@ -19,7 +26,7 @@ use Rattle.dispatcher.proofs.Judging.{firstOf}
 use Rattle.dispatcher.proofs.Same.{freshly-same}
 use Rattle.dispatcher.proofs.Freshness.{freshOf, freshly, freshly-keeps}
 use Rattle.dispatcher.proofs.Testing.{countTest, count-decides}
-use Rattle.calls.specs.Call.{Call, create, delete, Fits}
+use Rattle.calls.specs.Call.{Call, create, delete, wake, block, Fits}
 use Rattle.calls.specs.Cases.{Line, Prints, Follows, Case, Holds, AllHold, cases}
 use Rattle.calls.proofs.Calling.{does-same, does-keeps, modelOf, model-does}
 
@@ -49,11 +56,15 @@ same-list (a ∷ l) (b ∷ m) h =
 fits : Call → Bool
 fits (create slot priority mask) = leb priority greatestPriority
 fits (delete slot) = true
+fits (wake slot) = true
+fits (block slot) = true
 
 fits-yes : (c : Call) → fits c ≡ true → Fits c
 unfolding fits
 fits-yes (create slot priority mask) h = leb-true priority greatestPriority h
 fits-yes (delete slot) h = tt
+fits-yes (wake slot) h = tt
+fits-yes (block slot) h = tt
 
 prints : Line → Outcome → Bool
 prints l r =
@@ -86,10 +97,10 @@ unfolding follows
 follows-yes d [] L S h = tt
 follows-yes d (l ∷ ls) L S h = λ r does.
     let m = modelOf (l .call) d in
-    let e : m ≡ r = does-same (l .call) d (model-does (l .call) S) does in
+    let e : m ≡ r = does-same (l .call) d (model-does (l .call) L S) does in
     let a = both (fits (l .call)) _ h in
     let b = both (prints l m) _ (a .1) in
-    let k = does-keeps (l .call) m (fits-yes (l .call) (a .0)) L S (model-does (l .call) S) in
+    let k = does-keeps (l .call) m (fits-yes (l .call) (a .0)) L S (model-does (l .call) L S) in
     (subst (Prints l) e (prints-yes l m (b .0)), subst (λ (x : Outcome). Follows (x .dispatcher) ls) e (follows-yes (m .dispatcher) ls (k .0) (k .1) (b .1)))
 
 holds : Case → Bool
@@ -118,7 +129,7 @@ all-yes [] h = tt
 all-yes (c ∷ cs) h = let k = both (holds c) (all cs) h in (holds-yes c (k .0), all-yes cs (k .1))
 
 computed : all cases ≡ true
-unfolding all holds follows prints fits sameList firstOf anyBelow
+unfolding all holds follows prints fits sameList firstOf anyBelow pick seats first turn table find chosenOf arriveOf fillOf
 computed = refl
 
 -- the cases that document 01 marks, in one statement

@@ -1,2 +1,5 @@
 pub mod Calling
 pub mod Checking
+pub mod Ruling
+mod Since
+pub mod Demands

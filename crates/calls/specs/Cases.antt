@@ -8,7 +8,7 @@ use Rattle.dispatcher.specs.Answers.{numberOf}
 use Rattle.dispatcher.specs.Fresh.{Freshly}
 use Rattle.dispatcher.specs.declared.Dispatcher.{Dispatcher}
 use Rattle.dispatcher.specs.declared.Outcome.{Outcome}
-use Rattle.calls.specs.Call.{Call, create, Does}
+use Rattle.calls.specs.Call.{Call, create, delete, wake, block, Does}
 
 -- a call and its line: answer, moves, started, stopped, then for each core the slot or the mark
 pub record Line : Type 0 where
@@ -51,8 +51,24 @@ abbrev pub AllHold : List Case → Type 0
 AllHold [] = Unit {0}
 AllHold (c ∷ cs) = Holds c × AllHold cs
 
+-- document 01's listing: four creates, then eight events
+abbrev pub listing : List Line
+listing =
+    line (create 0 50 3) 0 0 none none (none ∷ none ∷ none ∷ []) ∷
+    line (create 1 40 6) 0 0 none none (none ∷ none ∷ none ∷ []) ∷
+    line (create 2 30 1) 0 0 none none (none ∷ none ∷ none ∷ []) ∷
+    line (create 5 30 4) 0 0 none none (none ∷ none ∷ none ∷ []) ∷
+    line (wake 0) 0 0 0 none (0 ∷ none ∷ none ∷ []) ∷
+    line (wake 1) 0 0 1 none (0 ∷ 1 ∷ none ∷ []) ∷
+    line (wake 2) 0 2 2 none (2 ∷ 0 ∷ 1 ∷ []) ∷
+    line (wake 5) 0 0 none none (2 ∷ 0 ∷ 1 ∷ []) ∷
+    line (block 0) 0 1 5 none (2 ∷ 1 ∷ 5 ∷ []) ∷
+    line (wake 5) 9 0 none none (2 ∷ 1 ∷ 5 ∷ []) ∷
+    line (wake 0) 0 1 0 5 (2 ∷ 0 ∷ 1 ∷ []) ∷
+    line (delete 5) 11 0 none none (2 ∷ 0 ∷ 1 ∷ []) ∷ []
+
 -- fresh with 0 cores is refused 2, with 32 done, with 33 refused 2; on a fresh dispatcher of one core, with priority 1, create of slot 0
--- with mask 2 is refused 8, of slot 127 with mask 1 done, of slot 128 with mask 1 refused 3
+-- with mask 2 is refused 8, of slot 127 with mask 1 done, of slot 128 with mask 1 refused 3; and the event file's listing for three cores
 abbrev pub cases : List Case
 cases =
     case 0 2 [] ∷
@@ -60,4 +76,5 @@ cases =
     case 33 2 [] ∷
     case 1 0 (line (create 0 1 2) 8 0 none none (none ∷ []) ∷ []) ∷
     case 1 0 (line (create 127 1 1) 0 0 none none (none ∷ []) ∷ []) ∷
-    case 1 0 (line (create 128 1 1) 3 0 none none (none ∷ []) ∷ []) ∷ []
+    case 1 0 (line (create 128 1 1) 3 0 none none (none ∷ []) ∷ []) ∷
+    case 3 0 listing ∷ []

@@ -1,2 +1,5 @@
 pub mod Call
 pub mod Cases
+pub mod Sequence
+pub mod Woken
+pub mod Demands

@@ -4,3 +4,4 @@ pub mod Promises
 pub mod Same
 pub mod Freshness
 pub mod Reading
+pub mod Stable

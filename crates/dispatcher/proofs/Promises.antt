@@ -6,8 +6,13 @@ use mathlib.Core.List.{List, [], _∷_, _++_}
 use native.Mathlib.Decide.{decLt}
 use native.Mathlib.Omega.{arith}
 use Rattle.dispatcher.specs.Limits.{slotLimit}
-use Rattle.dispatcher.specs.Answers.{Refusal, _when_, Applies, Answers}
+use Rattle.dispatcher.specs.Answers.{numberOf, Refusal, _when_, Applies, Answers}
 use Rattle.dispatcher.specs.Refusals.{IsAbove}
+use Rattle.dispatcher.specs.Reports.{stillOf}
+use Rattle.dispatcher.specs.Promise.{Promised}
+use Rattle.dispatcher.specs.declared.Answer.{Answer}
+use Rattle.dispatcher.specs.declared.Dispatcher.{Dispatcher}
+use Rattle.dispatcher.specs.declared.Outcome.{Outcome}
 
 -- where a call is done, no refusal applies
 pub none-applies : {rs : List Refusal} {n : ℕ} → Answers rs n → n ≡ 0 → (m : ℕ) → Applies rs m → ⊥
@@ -72,3 +77,12 @@ answers-none {P} k n = record { listed = λ z. absurd (z refl); lowest = go }
     go : (m : ℕ) → Applies (k when P ∷ []) m → (0 < 0) × (0 ≤ m)
     go m (inl (_, p)) = absurd (n p)
     go m (inr a) = absurd a
+
+-- ---- the two ends of a call
+
+pub refused : {rs : List Refusal} {d : Dispatcher} {Does : Outcome → Type 0} {r : Outcome} (a : Answer) → Answers rs (numberOf a) → numberOf a ≢ 0 → r ≡ record { report = stillOf a; dispatcher = d }
+    → Promised rs d Does r
+refused a h z q = rw q (record { answer = h; done = λ y. absurd (z y); kept = λ _. refl; still = λ _. refl })
+
+pub accepted : {rs : List Refusal} {d : Dispatcher} {Does : Outcome → Type 0} {r : Outcome} → Answers rs 0 → numberOf (r .report .answer) ≡ 0 → Does r → Promised rs d Does r
+accepted h z q = record { answer = rw z h; done = λ _. q; kept = λ n. absurd (n z); still = λ n. absurd (n z) }

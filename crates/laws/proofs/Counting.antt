@@ -1,9 +1,9 @@
 -- Lists in which no number stands twice, how many numbers below n pass a test, and that no such list of numbers below n is longer than n.
+use Prim.Native.Nat.{ℕ, zero, suc, _+_, _≤_, _<_}
 use mathlib.Core.Path.{_≡_, refl, sym, ap, _∙_, subst}
 use mathlib.Core.Logic.{_⊎_, inl, inr, _≢_}
-use mathlib.Core.Bool.{Bool, true, false, not, _&&_, cond}
+use mathlib.Core.Bool.{Bool, true, false, not, _&&_}
 use mathlib.Core.List.{List, [], _∷_}
-use Prim.Native.Nat.{ℕ, zero, suc, _+_, _≤_, _<_}
 use native.Mathlib.Nat.{not-suc-le-zero}
 use native.Mathlib.Decide.{ℕ-discrete}
 use native.Mathlib.Omega.{arith}
@@ -116,7 +116,7 @@ count-without f c (suc n) l t = go (ℕ-discrete n c) (λ l′. count-without f 
         let b : without f c n ≡ f n = without-other f c h in
         rw b (let k = ih (omega arith) in omega arith)
 
--- T0. A list of different numbers below n that all pass the test is no longer than the count;
+-- A list of different numbers below n that all pass the test is no longer than the count;
 pub length-le-count : (p : List ℕ) (f : ℕ → Bool) (n : ℕ) → Distinct p → ((c : ℕ) → In c p → (c < n) × (f c ≡ true)) → length p ≤ count f n
 length-le-count [] f n d h = omega arith
 length-le-count (c ∷ p) f n d h =

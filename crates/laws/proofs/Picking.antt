@@ -1,15 +1,15 @@
 -- How the last of some numbers by an order is picked, one number at a time.
 use Prim.Native.Nat.{ℕ, zero, suc, _+_, _≤_, _<_}
-use mathlib.Core.Path.{_≡_, refl, sym, ap, _∙_, subst}
+use mathlib.Core.Path.{_≡_, refl, subst}
 use mathlib.Core.Logic.{_⊎_, inl, inr, _≢_}
 use mathlib.Core.Bool.{Bool, true, false, cond, _||_, _&&_}
 use native.Mathlib.Decide.{ℕ-discrete}
 use native.Mathlib.Omega.{arith}
 use lib.Dec.{eqb, leb}
 use borrow.Author.Tests.{leb-true, leb-false, le-leb}
-use Rattle.laws.specs.Pick.{Picked, NonePicked, Picks}
+use Rattle.laws.specs.Pick.{Picked, Picks}
 use Rattle.laws.proofs.Deciding.{cases, clash}
-use Rattle.laws.proofs.Testing.{eqb-true, eqb-eq, eqb-ne, eqb-false}
+use Rattle.laws.proofs.Testing.{eqb-eq, eqb-ne}
 
 -- an order of numbers in which any two are one way round
 pub record Total (le : ℕ → ℕ → Bool) : Type 0 where

@@ -32,9 +32,9 @@ pub fn names_missing(mask: u32, count: u8) -> bool
 pub fn add(mask: u32, core: usize) -> u32
     ensures { λ r. ⌜ Added mask core r ⌝ }
 {
-    if core < WIDTH {
-        mask | (1u32 << core)
-    } else {
+    if WIDTH <= core {
         mask
+    } else {
+        mask | (1u32 << core)
     }
 }

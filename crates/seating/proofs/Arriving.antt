@@ -1,18 +1,17 @@
 -- How an arrival is decided: by a search to the idle cores, by the last of the tasks on reached cores, and by a search to its core.
 use Prim.Native.Nat.{ℕ, _≤_, _<_}
-use mathlib.Core.Path.{_≡_, refl, sym, ap, _∙_}
+use mathlib.Core.Path.{_≡_, refl, ap, _∙_}
 use mathlib.Core.Logic.{_⊎_, inl, inr, _≢_}
 use mathlib.Core.Bool.{Bool, true, false, cond}
-use mathlib.Core.List.{List, [], _∷_}
+use mathlib.Core.List.{List}
 use native.Mathlib.Omega.{arith}
 use lib.ListN.{length}
 use lib.Dec.{eqb, ltb, leb}
 use borrow.Author.Tests.{ltb-true, ltb-false, leb-true}
 use Rattle.laws.specs.Pick.{Picked, Picks}
 use Rattle.laws.proofs.Deciding.{cases, clash}
-use Rattle.laws.proofs.Testing.{eqb-eq, eqb-true}
+use Rattle.laws.proofs.Testing.{eqb-true}
 use Rattle.laws.proofs.Picking.{by-key, pick, pick-picks}
-use Rattle.seating.specs.Running.{Running}
 use Rattle.seating.specs.Reached.{Reached}
 use Rattle.seating.specs.Chosen.{Chosen, Unreached}
 use Rattle.seating.specs.Taking.{Goes}

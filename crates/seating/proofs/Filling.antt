@@ -10,7 +10,7 @@ use lib.Dec.{eqb, ltb, leb}
 use borrow.Author.Tests.{ltb-true, ltb-false, leb-true}
 use Rattle.laws.specs.Decides.{Decides}
 use Rattle.laws.specs.Pick.{Picked, Picks}
-use Rattle.laws.proofs.Deciding.{clash, cases, decides-and}
+use Rattle.laws.proofs.Deciding.{clash, cases}
 use Rattle.laws.proofs.Testing.{eqb-true}
 use Rattle.laws.proofs.Picking.{by-key, turned, pick, pick-picks, none-picked}
 use Rattle.seating.specs.Running.{Waiting}

@@ -1,13 +1,12 @@
 -- A seating in which each waiting task is shut in, and what keeps it so: a task arrives, a task leaves, a core falls idle, goes and comes back.
+use Prim.Native.Nat.{ℕ, _≤_, _<_}
 use mathlib.Core.Path.{_≡_, refl, sym, ap, _∙_, subst}
 use mathlib.Core.Logic.{_⊎_, inl, inr, _≢_}
-use mathlib.Core.Bool.{Bool, true, false, not, _&&_, _||_}
+use mathlib.Core.Bool.{Bool, true, false, _&&_, _||_}
 use mathlib.Core.List.{List, [], _∷_}
-use Prim.Native.Nat.{ℕ, _≤_, _<_}
 use native.Mathlib.Decide.{ℕ-discrete}
 use native.Mathlib.Omega.{arith}
-use lib.Dec.{eqb, ltb, ltb→lt, lt→ltb}
-use Rattle.laws.proofs.Counting.{front, front-in, in-dec, last-in, last-not-front, without}
+use Rattle.laws.proofs.Counting.{front, front-in, in-dec, last-in, last-not-front}
 use Rattle.laws.proofs.Deciding.{cases, clash}
 use Rattle.laws.proofs.Testing.{and-both, both-and, or-left, or-right}
 use Rattle.laws.specs.Lists.{Distinct, In, last}
@@ -197,7 +196,7 @@ module _ {n e : ℕ} {may : ℕ → ℕ → Bool} {rank : ℕ → ℕ} {s s′ :
           closed′ a i (inl j) d u = or-left (P .K d) (pen-closed a j d u)
           closed′ a i (inr j) d u = or-right (G .K d) (P .closed a (rest a i j) (other a j) d (rw (pen-off a j) at u))
 
--- ---- T4: a task arrives
+-- ---- a task arrives
 
 legal-more : {n e : ℕ} {may : ℕ → ℕ → Bool} {R R′ : ℕ → Type 0} {s : ℕ → ℕ} → ((t : ℕ) → R t → R′ t) → Legal n e may R s → Legal n e may R′ s
 legal-more {s = s} h L = record { ready = λ c l q. h (s c) (L .ready c l q); allowed = L .allowed; once = L .once }
@@ -263,7 +262,7 @@ latest-strict {rank = rank} {s = s} L inj G below z k top a i d =
     (inj (s a) (s z) (L .ready a (below a i) (G .full a i)) (L .ready z (below z k) (G .full z k)) q)) in
     omega arith
 
--- ---- T4: a core z is idle, and tasks that wait may reach it
+-- ---- a core z is idle, and tasks that wait may reach it
 
 -- h is the first of the waiting tasks that reach z: it takes a chain there. Each other waiting task is shut in (it does not reach z), or comes after h.
 pub fill : {n e : ℕ} {may : ℕ → ℕ → Bool} {rank : ℕ → ℕ} {R : ℕ → Type 0} {s s′ : ℕ → ℕ} {h c : ℕ} {p : List ℕ} → Legal n e may R s

@@ -13,5 +13,6 @@ pub mod Find
 pub mod Ranks
 pub mod Rules
 pub mod Once
+pub mod Legality
 pub mod Arriving
 pub mod Filling

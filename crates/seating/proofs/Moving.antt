@@ -1,10 +1,9 @@
 -- How many tasks change their core, and that a shortest chain moves the fewest.
+use Prim.Native.Nat.{ℕ, _≤_, _<_}
 use mathlib.Core.Path.{_≡_, refl, sym, ap, _∙_}
 use mathlib.Core.Logic.{_⊎_, inl, inr, _≢_}
-use mathlib.Core.Bool.{Bool, true, false, not, _&&_, _||_}
+use mathlib.Core.Bool.{Bool, true, false, not, _&&_}
 use mathlib.Core.List.{List, [], _∷_}
-use Prim.Native.Nat.{ℕ, zero, suc, _≤_, _<_}
-use native.Mathlib.Nat.{not-suc-le-zero}
 use native.Mathlib.Decide.{ℕ-discrete}
 use native.Mathlib.Omega.{arith}
 use lib.ListN.{length}
@@ -12,7 +11,7 @@ use lib.Dec.{eqb}
 use Rattle.laws.proofs.Counting.{any-find, any-true, count-none, count-same, front, front-distinct, front-in, in-dec, in-front-or-last, last-in, length-front, length-is-count, length-le-count}
 use Rattle.laws.proofs.Deciding.{cases}
 use Rattle.laws.proofs.Testing.{and-both, both-and, eqb-eq, eqb-false, eqb-ne, eqb-true, not-false, not-true}
-use Rattle.laws.specs.Counting.{anyBelow, count}
+use Rattle.laws.specs.Counting.{anyBelow}
 use Rattle.laws.specs.Lists.{Distinct, In, last}
 use Rattle.seating.proofs.Same.{Shifts, Walk, same, walk}
 use Rattle.seating.proofs.Shut.{RankStrong}
@@ -42,7 +41,7 @@ module _ (n e : ℕ) (s s′ : ℕ → ℕ) where
   shifts-moved c (d ∷ p) u h b (inl i) = rw i (moved-intro c d (h .0) (h .1) (λ j. u .0 (inl (sym j))) (h .2))
   shifts-moved c (d ∷ p) u h b (inr i) = shifts-moved d p (u .1) (h .3) b i
 
--- T5. Whoever runs in s′ and not in s got there by a chain no longer than the number of moved tasks and one;
+-- Whoever runs in s′ and not in s got there by a chain no longer than the number of moved tasks and one;
 pub taken-moved : {n e : ℕ} {may : ℕ → ℕ → Bool} {s s′ : ℕ → ℕ} {x : ℕ} (t : Walk n e may s s′ x) → length (t .p) ≤ moved n e s s′
 unfolding moved
 taken-moved {n} {e} {may} {s} {s′} t =

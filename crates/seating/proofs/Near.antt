@@ -1,19 +1,18 @@
 -- How the chosen chain is found. N k c: the target is reached from core c in at most k further steps. With the least k for which x may use a core that is so near,
 -- the chain goes to the smallest such core, from there to the smallest core that is near by one step less, and so on.
+use Prim.Native.Nat.{ℕ, zero, suc, _+_, _-_, _≤_, _<_}
 use mathlib.Core.Path.{_≡_, refl, sym, ap, ap₂, _∙_, subst}
 use mathlib.Core.Logic.{_⊎_, inl, inr, _≢_}
 use mathlib.Core.Bool.{Bool, true, false, _&&_, _||_, cond}
 use mathlib.Core.List.{List, [], _∷_}
-use Prim.Native.Nat.{ℕ, zero, suc, _+_, _-_, _≤_, _<_}
 use native.Mathlib.Omega.{arith}
 use native.Mathlib.Decide.{ℕ-discrete}
 use lib.ListN.{length}
 use lib.Dec.{ltb, leb}
-use borrow.Author.Tests.{ltb-true, ltb-false, lt-ltb, le-ltb, leb-true, leb-false, le-leb, lt-leb}
+use borrow.Author.Tests.{ltb-true, ltb-false, lt-ltb, leb-true, leb-false, le-leb, lt-leb}
 use Rattle.laws.proofs.Counting.{pigeonhole}
 use Rattle.laws.proofs.Deciding.{cases, clash}
 use Rattle.laws.proofs.Testing.{and-both, both-and, or-cases, or-left, or-right}
-use Rattle.laws.specs.Counting.{anyBelow}
 use Rattle.laws.specs.Lists.{Distinct, In, last}
 use Rattle.seating.proofs.Rows.{first, first-ext, first-hit, first-holds, first-none}
 use Rattle.seating.proofs.Take.{chain-below}
@@ -235,7 +234,7 @@ module _ {n e : ℕ} {may : ℕ → ℕ → Bool} {s : ℕ → ℕ} {G : ℕ →
       none = λ d q h t. M k d l (h .start .0) (h .start .1) (stable-near L k l f d q (h .start .0) (links-steps d q (h .start .0) (h .links)) t);
     }
 
--- ---- marks: a number for each core, its distance to the target so far as it is found, and far for anyBelow other
+-- ---- marks: a number for each core, its distance to the target so far as it is found, and far for any other
 
 -- one more round: each core with no mark, from which one step leads to a mark of at most k, gets k + 1
 unfoldable pub turn : ℕ → (ℕ → ℕ → Bool) → (ℕ → ℕ) → ℕ → ℕ → ℕ
@@ -334,7 +333,7 @@ module _ {far n : ℕ} {G : ℕ → ℕ → Bool} {T : ℕ → Bool} {D : ℕ �
           exact (suc i) e = let a = leb-true k (D c) t in lt-leb (D c) i (omega arith)
       go (inr t) = leb-false k (D c) t
 
-  -- where no mark is k, the marks are right for anyBelow number of steps
+  -- where no mark is k, the marks are right for any number of steps
   module _ (calm : (c : ℕ) → c < n → leb (D c) k ≡ true → D c < k) where
     high : (i c : ℕ) → k ≤ i → i < far → c < n → leb (D c) i ≡ leb (D c) (k - 1)
     high i c l m b = go (cases (leb (D c) k))

@@ -1,7 +1,7 @@
 -- The rules leave no choice: from one seating an arrival has one end, one count of moves and one seating after, and so has a filling.
 use Prim.Native.Nat.{ℕ}
-use mathlib.Core.Path.{_≡_, refl, sym, ap, _∙_, subst}
-use mathlib.Core.Logic.{_⊎_, inl, inr, _≢_}
+use mathlib.Core.Path.{_≡_, sym, ap, _∙_}
+use mathlib.Core.Logic.{_⊎_, inl, inr}
 use mathlib.Core.Bool.{Bool}
 use mathlib.Core.List.{List, [], _∷_}
 use native.Mathlib.Decide.{ℕ-discrete}
@@ -11,8 +11,8 @@ use Rattle.laws.specs.Lists.{In, last}
 use Rattle.laws.proofs.Counting.{in-dec}
 use Rattle.laws.proofs.Testing.{eqb-eq}
 use Rattle.seating.specs.Taking.{Passes, Takes, Goes, Stays}
-use Rattle.seating.specs.Arrival.{ToIdle, NoIdle, Last, Pushes, MustWait, Arrives}
-use Rattle.seating.specs.Filling.{First, Filled, StaysIdle, Fills}
+use Rattle.seating.specs.Arrival.{ToIdle, NoIdle, Last, Arrives}
+use Rattle.seating.specs.Filling.{First, Fills}
 use Rattle.seating.proofs.Choice.{chosen-same}
 use Rattle.seating.proofs.Ranks.{chain-reached}
 

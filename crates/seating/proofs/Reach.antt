@@ -1,9 +1,9 @@
 -- The other way round: in a strong seating each waiting task is shut in, by the cores that it reaches.
+use Prim.Native.Nat.{ℕ, zero, suc, _+_, _≤_, _<_}
 use mathlib.Core.Path.{_≡_, refl, sym, _∙_, subst}
 use mathlib.Core.Logic.{_⊎_, inl, inr, _≢_}
 use mathlib.Core.Bool.{Bool, true, false, not, _&&_, _||_}
 use mathlib.Core.List.{List, [], _∷_, _++_}
-use Prim.Native.Nat.{ℕ, zero, suc, _+_, _≤_, _<_}
 use native.Mathlib.Omega.{arith}
 use lib.Dec.{eqb, ltb, ltb→lt, lt→ltb}
 use Rattle.laws.proofs.Counting.{any-find, any-true, count-le, count-without, find, in-dec, last-in, without, without-other}
@@ -201,7 +201,7 @@ strong-shut {n} {e} {may} {rank} {R} {s} S w u = go (stable n e may s w)
 pub strong-settled : {n e : ℕ} {may : ℕ → ℕ → Bool} {rank : ℕ → ℕ} {R : ℕ → Type 0} {s : ℕ → ℕ} → Legal n e may R s → RankStrong n e may rank R s → Settled n e may rank R s
 strong-settled L S = record { legal = L; shut = strong-shut S }
 
--- In anyBelow seating w reaches an idle core, or the cores that it reaches are a cage.
+-- In any seating w reaches an idle core, or the cores that it reaches are a cage.
 pub reached : (n e : ℕ) (may : ℕ → ℕ → Bool) (s : ℕ → ℕ) (w : ℕ)
     → ((c : ℕ) × Reached n e may s w c × (s c ≡ e)) ⊎ ((G : Cage n e may s w) × ((c : ℕ) → G .K c ≡ true → Reached n e may s w c))
 unfolding Stable

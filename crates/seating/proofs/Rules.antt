@@ -10,7 +10,7 @@ use lib.ListN.{length}
 use lib.Dec.{eqb, leb}
 use borrow.Author.Tests.{leb-true}
 use Rattle.laws.specs.Lists.{last}
-use Rattle.laws.specs.Pick.{Picked, NonePicked, Picks}
+use Rattle.laws.specs.Pick.{Picks}
 use Rattle.laws.proofs.Deciding.{clash}
 use Rattle.laws.proofs.Testing.{eqb-eq, eqb-true}
 use Rattle.laws.proofs.Picking.{by-key, pick, pick-picks}
@@ -20,14 +20,14 @@ use Rattle.seating.specs.Chain.{Links, Chain}
 use Rattle.seating.specs.Reached.{Reached}
 use Rattle.seating.specs.Moved.{moved}
 use Rattle.seating.specs.Taking.{Passes, Takes, Goes, Stays}
-use Rattle.seating.specs.Arrival.{ToIdle, NoIdle, Last, Pushes, MustWait, Arrives}
+use Rattle.seating.specs.Arrival.{ToIdle, Last, Pushes, MustWait, Arrives}
 use Rattle.seating.specs.Filling.{First, Filled, StaysIdle, Fills}
-use Rattle.seating.specs.Strong.{Legal, Strong, Keeps}
+use Rattle.seating.specs.Strong.{Legal, Keeps}
 use Rattle.seating.specs.Least.{Least}
 use Rattle.seating.proofs.Same.{Shifts}
 use Rattle.seating.proofs.Take.{Took, chain-below}
 use Rattle.seating.proofs.Choice.{chosen-shortest}
-use Rattle.seating.proofs.Keep.{Settled, settled-strong, Joins, Cage, Pen, cage-shut, leave-waits}
+use Rattle.seating.proofs.Keep.{Settled, Joins, Cage, Pen, cage-shut, leave-waits}
 use Rattle.seating.proofs.Moving.{took-moved, moved-none, moved-left}
 use Rattle.seating.proofs.Reach.{reached, reach-inside}
 use Rattle.seating.proofs.Best.{Best, best-stays, best-idle, best-full, best-waits, Leaky, leave-leaky, fill-none, best-fill}

@@ -1,9 +1,9 @@
 -- Two strong seatings of the same ready tasks run the same tasks.
+use Prim.Native.Nat.{ℕ, zero, suc, _<_}
 use mathlib.Core.Path.{_≡_, refl, sym, ap, _∙_, subst}
 use mathlib.Core.Logic.{_⊎_, inl, inr, _≢_}
 use mathlib.Core.Bool.{Bool, true, false}
 use mathlib.Core.List.{List, [], _∷_}
-use Prim.Native.Nat.{ℕ, zero, suc, _<_}
 use native.Mathlib.Nat.{not-suc-le-zero}
 use native.Mathlib.Decide.{ℕ-discrete}
 use native.Mathlib.Omega.{arith}
@@ -45,7 +45,7 @@ shut-strong {n} {e} {may} {rank} {R} {s} h = record { full = λ w c p k q. h w k
     inside : (w c : ℕ) (p : List ℕ) (k : Waiting n e R s w) → Chain n e may s w c p → (h w k) .K (last c p) ≡ true
     inside w c p k q = links-inside n e may s (h w k .K) (h w k .closed) c p (h w k .starts c (q .start)) (q .links) (last c p) (last-in c p)
 
--- ---- T1: from a task that runs in s′ and not in s, to the core that s′ gives it, to the core that s′ gives that core's task, and so on
+-- ---- from a task that runs in s′ and not in s, to the core that s′ gives it, to the core that s′ gives that core's task, and so on
 
 -- each task on c ∷ p but the last sits in s′ on the next core
 abbrev pub Shifts : ℕ → ℕ → (ℕ → ℕ) → (ℕ → ℕ) → ℕ → List ℕ → Type 0
@@ -147,7 +147,7 @@ walk {n} {e} {may} {R} {R′} {s} {s′} L L′ x r off = go (follow n e s s′ 
         ends (inl q) = q
         ends (inr q) = λ u. let z = pigeonhole (f .0 ∷ f .1) n different (shifts-below n e s s′ (f .0) (f .1) (f .2) (f .4)) in omega arith
 
--- ---- T2
+-- ---- no task runs in one of two strong seatings and waits in the other
 
 pub runs-ready : {n e : ℕ} {may : ℕ → ℕ → Bool} {R : ℕ → Type 0} {s : ℕ → ℕ} {x : ℕ} → Legal n e may R s → Running n e s x → R x
 runs-ready {R = R} L r = subst R (r .sits) (L .ready (r .core) (r .below) (λ k. r .real (sym (r .sits) ∙ k)))

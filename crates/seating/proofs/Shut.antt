@@ -1,9 +1,9 @@
 -- The strong rule by ranks (of two tasks the one with the lower rank comes before), and why a task waits rightly: cores that it cannot leave.
+use Prim.Native.Nat.{ℕ, _<_}
 use mathlib.Core.Path.{_≡_}
 use mathlib.Core.Logic.{_≢_}
 use mathlib.Core.Bool.{Bool, true}
 use mathlib.Core.List.{List}
-use Prim.Native.Nat.{ℕ, _<_}
 use Rattle.laws.specs.Lists.{last}
 use Rattle.seating.specs.Running.{May, Waiting}
 use Rattle.seating.specs.Chain.{Chain}
@@ -13,7 +13,7 @@ pub record RankStrong (n e : ℕ) (may : ℕ → ℕ → Bool) (rank : ℕ → �
   pub full : (w c : ℕ) (p : List ℕ) → Waiting n e R s w → Chain n e may s w c p → s (last c p) ≢ e
   pub before : (w c : ℕ) (p : List ℕ) → Waiting n e R s w → Chain n e may s w c p → rank (s (last c p)) < rank w
 
--- why w waits: a set of cores, all held by tasks that come before w, that neither w nor anyBelow of these tasks can leave
+-- why w waits: a set of cores, all held by tasks that come before w, that neither w nor any of these tasks can leave
 pub record Shut (n e : ℕ) (may : ℕ → ℕ → Bool) (rank : ℕ → ℕ) (s : ℕ → ℕ) (w : ℕ) : Type 0 where
   pub K : ℕ → Bool
   pub starts : (c : ℕ) → May n may w c → K c ≡ true

@@ -1,15 +1,14 @@
 -- A newcomer takes a chain: it gets the chain's first core, each task on the chain but the last gets the next core, and the last one drops out.
+use Prim.Native.Nat.{ℕ, _≤_, _<_}
 use mathlib.Core.Path.{_≡_, refl, sym, ap, _∙_, subst, fun-ext}
 use mathlib.Core.Logic.{_⊎_, inl, inr, _≢_}
 use mathlib.Core.Bool.{Bool, true}
 use mathlib.Core.List.{List, [], _∷_}
-use Prim.Native.Nat.{ℕ, _≤_, _<_}
 use native.Mathlib.Decide.{ℕ-discrete}
 use native.Mathlib.Omega.{arith}
 use lib.ListN.{length, getD, set, length-set}
 use lib.Seq.{getD-set-same, getD-set-other}
 use Rattle.laws.proofs.Counting.{front, front-in, in-dec, in-front-or-last, last-in, last-not-front}
-use Rattle.laws.specs.Counting.{anyBelow}
 use Rattle.laws.specs.Lists.{Distinct, In, last}
 use Rattle.seating.proofs.Same.{Shifts, from, shifts-below, to}
 use Rattle.seating.proofs.Update.{upd, upd-other, upd-same}
@@ -120,14 +119,14 @@ pub takeChain-took : {n e : ℕ} {may : ℕ → ℕ → Bool} (xs : List ℕ) {x
     → Took n e may (seats e xs) (seats e (takeChain e xs x c p)) x c p
 takeChain-took {n} {e} {may} xs {x} {c} {p} l h = rw (take-shift e xs x c p (λ a i. let b = chain-below h a i in omega arith)) (shift-took h)
 
--- ---- T3: who runs then
+-- ---- who runs then
 
 module _ {n e : ℕ} {may : ℕ → ℕ → Bool} {R : ℕ → Type 0} {s s′ : ℕ → ℕ} {x c : ℕ} {p : List ℕ}
     (L : Legal n e may R s) (real : x ≢ e) (k : Took n e may s s′ x c p) where
   pub took-runs : Running n e s′ x
   took-runs = record { real = real; core = c; below = k .chain .start .0; sits = k .first }
 
-  -- anyBelow other task that runs ran before, and was not on the last core
+  -- any other task that runs ran before, and was not on the last core
   pub took-old : (t : ℕ) → Running n e s′ t → (t ≡ x) ⊎ (Running n e s t × (t ≢ s (last c p)))
   took-old t r = go (in-dec (r .core) (c ∷ p))
     where
@@ -161,7 +160,7 @@ module _ {n e : ℕ} {may : ℕ → ℕ → Bool} {R : ℕ → Type 0} {s s′ :
       go (inl i) = on (in-front-or-last c p i)
       go (inr i) = record { real = r .real; core = r .core; below = r .below; sits = k .off (r .core) i ∙ r .sits }
 
--- ---- T3: the seating stays legal
+-- ---- the seating stays legal
 
 module _ {n e : ℕ} {may : ℕ → ℕ → Bool} {R : ℕ → Type 0} {s s′ : ℕ → ℕ} {x c : ℕ} (L : Legal n e may R s) (real : x ≢ e) (rx : R x)
     (ok : May n may x c) (out : Running n e s x → ⊥) (first : s′ c ≡ x) (off : (a : ℕ) → a ≢ c → s′ a ≡ s a) where

@@ -1,8 +1,8 @@
 -- A function changed at one place.
+use Prim.Native.Nat.{ℕ}
 use mathlib.Core.Path.{_≡_, refl}
 use mathlib.Core.Logic.{_≢_}
 use mathlib.Core.Bool.{cond}
-use Prim.Native.Nat.{ℕ}
 use lib.Dec.{eqb}
 use Rattle.laws.proofs.Testing.{eqb-true, eqb-false}
 

@@ -61,9 +61,9 @@ pub fn named(d: Dispatcher, slot: u16) -> Answer
 fn delete_answer(d: Dispatcher, slot: u16) -> Answer
     ensures { λ r. ⌜ Answers (deleteRefusals d slot) (numberOf r) ⌝ }
 {
-    let answer = named(d, slot);
-    if answer.number() != 0 {
-        return answer;
+    let first = named(d, slot);
+    if first.number() != 0 {
+        return first;
     }
     if d.is_ready(slot) {
         return Answer::StillReady;

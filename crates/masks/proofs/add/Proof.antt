@@ -11,10 +11,10 @@ shl-result : tie.Need-shl-result
 shl-result c = search needs
 
 returns : tie.Need-returns
-returns c = added (c .before .args .mask) (c .before .args .core) (c .if1 .taken)
+returns c = none-added (c .before .args .mask) (c .before .args .core) (c .if1 .taken)
 
 returns-2 : tie.Need-returns-2
-returns-2 c = none-added (c .before .args .mask) (c .before .args .core) (c .if1 .left)
+returns-2 c = added (c .before .args .mask) (c .before .args .core) (c .if1 .left)
 
 pub add-spec : {M : Type 1} → statement M
 add-spec = tie.close (tie.spec cast-result shl-result returns returns-2)

@@ -3,8 +3,8 @@ use mathlib.Core.Path.{refl, sym}
 use borrow.Author.Needs.{needs}
 use Rattle.masks.specs.Masks.{width}
 use Rattle.masks.proofs.Bits.{has-beyond}
-use Rattle.masks.proofs.has.Tie as tie
 use Rattle.masks.proofs.has.Statement.{statement}
+use Rattle.masks.proofs.has.Tie as tie
 
 cast-result : tie.Need-cast-result
 cast-result c = search needs

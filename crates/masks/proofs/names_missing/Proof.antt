@@ -3,8 +3,8 @@ use borrow.Author.Needs.{needs}
 use Rattle.laws.proofs.Deciding.{decides-false}
 use Rattle.masks.specs.Masks.{width}
 use Rattle.masks.proofs.Bits.{names-test, none-beyond}
-use Rattle.masks.proofs.names_missing.Tie as tie
 use Rattle.masks.proofs.names_missing.Statement.{statement}
+use Rattle.masks.proofs.names_missing.Tie as tie
 
 shr-result : tie.Need-shr-result
 shr-result c = search needs

@@ -8,8 +8,8 @@ use Rattle.laws.proofs.Lists.{getD-any}
 use Rattle.dispatcher.specs.Limits.{none}
 use Rattle.order.specs.Places.{placesOf}
 use Rattle.order.proofs.Placing.{Marked, marked-none, marked-slot, marked-other, marked-all}
-use Rattle.order.proofs.first_places.Tie as tie
 use Rattle.order.proofs.first_places.Statement.{statement}
+use Rattle.order.proofs.first_places.Tie as tie
 
 abbrev Inv-loop : tie.InvT-loop
 Inv-loop list places₀ i₀ places i = (i ≤ placesOf list) × Marked list i places

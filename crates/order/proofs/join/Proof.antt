@@ -6,8 +6,8 @@ use lib.Seq.{set-out}
 use borrow.Author.Needs.{needs}
 use Rattle.dispatcher.specs.Limits.{slotLimit, none}
 use Rattle.order.specs.ComesBefore.{placeIn}
-use Rattle.order.proofs.join.Tie as tie
 use Rattle.order.proofs.join.Statement.{statement}
+use Rattle.order.proofs.join.Tie as tie
 
 order-long : (e : tie.Start) → length (e .args .t1) ≡ slotLimit
 order-long e = e .good .0 .1 .0 .1

@@ -7,8 +7,8 @@ use borrow.Author.Needs.{needs}
 use Rattle.laws.proofs.Lists.{getD-any}
 use Rattle.dispatcher.specs.Limits.{slotLimit, none}
 use Rattle.order.proofs.MovingUp.{MovedUp, moved-none, moved-one, moved-all}
-use Rattle.order.proofs.leave.Tie as tie
 use Rattle.order.proofs.leave.Statement.{statement}
+use Rattle.order.proofs.leave.Tie as tie
 
 abbrev Inv-loop : tie.InvT-loop
 Inv-loop slot order k₀ next₀ k next = (k < slotLimit) × MovedUp order slot k next

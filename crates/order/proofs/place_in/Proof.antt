@@ -7,8 +7,8 @@ use lib.ListN.{length, getD}
 use borrow.Author.Needs.{needs}
 use borrow.Author.Count.{below-more}
 use Rattle.order.proofs.Standing.{place-is, place-none}
-use Rattle.order.proofs.place_in.Tie as tie
 use Rattle.order.proofs.place_in.Statement.{statement}
+use Rattle.order.proofs.place_in.Tie as tie
 
 abbrev Inv-loop : tie.InvT-loop
 Inv-loop list slot k₀ k = (k ≤ length list) × ((j : ℕ) → j < k → getD list j 0 ≢ slot)

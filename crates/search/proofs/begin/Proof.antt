@@ -6,8 +6,8 @@ use Rattle.masks.specs.Masks.{width}
 use Rattle.search.specs.Marks.{far}
 use Rattle.search.specs.Rounds.{firstMark, Filled}
 use Rattle.search.proofs.Arrays.{filled-start, filled-next, filled-end}
-use Rattle.search.proofs.begin.Tie as tie
 use Rattle.search.proofs.begin.Statement.{statement}
+use Rattle.search.proofs.begin.Tie as tie
 
 abbrev Inv-loop : tie.InvT-loop
 Inv-loop target n marks₀ c₀ marks c = Filled (firstMark target) c n (replicate width far) marks

@@ -1,13 +1,12 @@
 -- `cut` meets its promise: the remainder by a power of two has the bits below it.
 use Prim.Native.Nat.{_*_, _%_, _^_}
-use mathlib.Core.Path.{refl}
 use native.Mathlib.Nat.{mod-le}
 use native.Mathlib.Omega.{arith}
 use lib.Pow.{pow-pos}
 use borrow.Author.Needs.{needs}
 use Rattle.masks.proofs.Operators.{shl-one}
-use Rattle.search.proofs.cut.Tie as tie
 use Rattle.search.proofs.cut.Statement.{statement}
+use Rattle.search.proofs.cut.Tie as tie
 
 shl-result : tie.Need-shl-result
 shl-result c = search needs

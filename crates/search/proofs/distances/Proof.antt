@@ -3,8 +3,8 @@ use Prim.Native.Nat.{_-_}
 use native.Mathlib.Omega.{arith}
 use borrow.Author.Needs.{needs}
 use Rattle.search.proofs.Marking.{Rounds, rounds-start, rounds-next, rounds-stuck, rounds-over}
-use Rattle.search.proofs.distances.Tie as tie
 use Rattle.search.proofs.distances.Statement.{statement}
+use Rattle.search.proofs.distances.Tie as tie
 
 abbrev Inv-loop : tie.InvT-loop
 Inv-loop masks target n marks₀ near₀ limit₀ marks near limit = Rounds n masks target marks near limit

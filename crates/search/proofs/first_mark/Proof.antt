@@ -1,8 +1,8 @@
 -- `first_mark` meets its promise.
-use mathlib.Core.Path.{refl, sym, _∙_}
+use mathlib.Core.Path.{sym, _∙_}
 use borrow.Author.Needs.{needs}
-use Rattle.search.proofs.first_mark.Tie as tie
 use Rattle.search.proofs.first_mark.Statement.{statement}
+use Rattle.search.proofs.first_mark.Tie as tie
 
 has-requires : tie.Need-has-requires
 has-requires c κs = search needs

@@ -3,8 +3,8 @@ use native.Mathlib.Omega.{arith}
 use borrow.Author.Needs.{needs}
 use Rattle.search.specs.Marks.{within}
 use Rattle.search.proofs.Following.{Going, going-start, going-next, going-below, going-end}
-use Rattle.search.proofs.follow.Tie as tie
 use Rattle.search.proofs.follow.Statement.{statement}
+use Rattle.search.proofs.follow.Tie as tie
 
 abbrev Inv-loop : tie.InvT-loop
 Inv-loop masks marks from limit n cores₀ at₀ length₀ k₀ cores at length k = Going n masks (within marks) from limit cores at length k

@@ -5,8 +5,8 @@ use native.Mathlib.Omega.{arith}
 use borrow.Author.Needs.{needs}
 use Rattle.search.specs.Rounds.{Gathered}
 use Rattle.search.proofs.Gathering.{gathered-none, gathered-pass, gathered-add, gathered-all}
-use Rattle.search.proofs.gathered.Tie as tie
 use Rattle.search.proofs.gathered.Statement.{statement}
+use Rattle.search.proofs.gathered.Tie as tie
 
 abbrev Inv-loop : tie.InvT-loop
 Inv-loop marks limit n near₀ c₀ near c = (c ≤ n) × Gathered marks limit c near

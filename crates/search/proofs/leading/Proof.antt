@@ -1,8 +1,8 @@
 -- `leading` meets its promise: the cores that lead to the target are those with a mark.
 use borrow.Author.Needs.{needs}
 use Rattle.search.proofs.Marking.{marks-leading}
-use Rattle.search.proofs.leading.Tie as tie
 use Rattle.search.proofs.leading.Statement.{statement}
+use Rattle.search.proofs.leading.Tie as tie
 
 distances-requires : tie.Need-distances-requires
 distances-requires c κs = search needs

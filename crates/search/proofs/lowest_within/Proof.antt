@@ -8,8 +8,8 @@ use Rattle.masks.specs.Masks.{has}
 use Rattle.seating.proofs.Rows.{first, begins, goes-on, stops, ends}
 use Rattle.seating.proofs.Near.{lowest}
 use Rattle.search.specs.Marks.{within}
-use Rattle.search.proofs.lowest_within.Tie as tie
 use Rattle.search.proofs.lowest_within.Statement.{statement}
+use Rattle.search.proofs.lowest_within.Tie as tie
 
 abbrev Inv-loop : tie.InvT-loop
 Inv-loop marks mask limit n core₀ core = (core ≤ n) × (first (λ d. has mask d && within marks limit d) core (n - core) ≡ lowest n (has mask) (within marks limit))

@@ -1,9 +1,8 @@
 -- `next_mark` meets its promise: each return is the case of its two tests.
-use mathlib.Core.Path.{refl}
 use borrow.Author.Tests.{le-leb, lt-leb, eq-eqb, ne-eqb}
 use borrow.Author.Needs.{needs}
-use Rattle.search.proofs.next_mark.Tie as tie
 use Rattle.search.proofs.next_mark.Statement.{statement}
+use Rattle.search.proofs.next_mark.Tie as tie
 
 returns : tie.Need-returns
 returns c = rw (le-leb _ _ (c .if1 .taken))

@@ -1,8 +1,8 @@
 -- `passes` meets its promise.
-use mathlib.Core.Path.{refl, sym, _∙_}
+use mathlib.Core.Path.{sym, _∙_}
 use borrow.Author.Needs.{needs}
-use Rattle.search.proofs.passes.Tie as tie
 use Rattle.search.proofs.passes.Statement.{statement}
+use Rattle.search.proofs.passes.Tie as tie
 
 has-requires : tie.Need-has-requires
 has-requires c κs = search needs

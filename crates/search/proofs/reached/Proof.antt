@@ -3,8 +3,8 @@ use Prim.Native.Nat.{_-_, _^_}
 use native.Mathlib.Omega.{arith}
 use Rattle.masks.specs.Masks.{width}
 use Rattle.search.proofs.Sweeping.{Grown, grown-start, grown-next, grown-more, grown-end}
-use Rattle.search.proofs.reached.Tie as tie
 use Rattle.search.proofs.reached.Statement.{statement}
+use Rattle.search.proofs.reached.Tie as tie
 
 abbrev Inv-loop : tie.InvT-loop
 Inv-loop masks start n seen₀ seen = Grown n masks start seen

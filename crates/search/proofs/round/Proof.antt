@@ -5,8 +5,8 @@ use borrow.Author.Needs.{needs}
 use Rattle.search.specs.Marks.{mark}
 use Rattle.search.specs.Rounds.{nextMark, Filled}
 use Rattle.search.proofs.Arrays.{filled-start, filled-next, filled-end}
-use Rattle.search.proofs.round.Tie as tie
 use Rattle.search.proofs.round.Statement.{statement}
+use Rattle.search.proofs.round.Tie as tie
 
 abbrev Inv-loop : tie.InvT-loop
 Inv-loop masks near limit n marks next₀ c₀ next c = Filled (λ k. nextMark (mark marks k) (getD masks k 0) near limit) c n marks next

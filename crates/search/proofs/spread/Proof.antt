@@ -5,8 +5,8 @@ use mathlib.Core.Logic.{⊎-elim}
 use borrow.Author.Needs.{needs}
 use Rattle.search.specs.Spread.{Spread}
 use Rattle.search.proofs.Sweeping.{spread-start, spread-pass, spread-add, spread-end}
-use Rattle.search.proofs.spread.Tie as tie
 use Rattle.search.proofs.spread.Statement.{statement}
+use Rattle.search.proofs.spread.Tie as tie
 
 abbrev Inv-loop : tie.InvT-loop
 Inv-loop masks seen n r₀ c₀ r c = Spread n masks seen c r

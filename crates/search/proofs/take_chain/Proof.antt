@@ -3,8 +3,8 @@ use Prim.Native.Nat.{_-_}
 use native.Mathlib.Omega.{arith}
 use borrow.Author.Needs.{needs}
 use Rattle.search.proofs.Taking.{Taking, taking-start, taking-next, taking-end}
-use Rattle.search.proofs.take_chain.Tie as tie
 use Rattle.search.proofs.take_chain.Statement.{statement}
+use Rattle.search.proofs.take_chain.Tie as tie
 
 abbrev Inv-loop : tie.InvT-loop
 Inv-loop length newcomer cores out₀ x₀ i₀ out x i = Taking cores length out₀ newcomer out x i

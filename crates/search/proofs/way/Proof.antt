@@ -3,8 +3,8 @@ use Prim.Native.Nat.{_-_}
 use native.Mathlib.Omega.{arith}
 use borrow.Author.Needs.{needs}
 use Rattle.search.proofs.Ways.{Trying, trying-start, trying-next, way-none, way-over, way-ready, way-found}
-use Rattle.search.proofs.way.Tie as tie
 use Rattle.search.proofs.way.Statement.{statement}
+use Rattle.search.proofs.way.Tie as tie
 
 abbrev Inv-loop : tie.InvT-loop
 Inv-loop masks marks target start n limit₀ limit = Trying n start marks limit

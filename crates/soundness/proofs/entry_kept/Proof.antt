@@ -2,8 +2,8 @@
 use native.Mathlib.Omega.{arith}
 use borrow.Author.Needs.{needs}
 use Rattle.laws.proofs.Deciding.{clash, decides-false, decides-by}
-use Rattle.soundness.proofs.entry_kept.Tie as tie
 use Rattle.soundness.proofs.entry_kept.Statement.{statement}
+use Rattle.soundness.proofs.entry_kept.Tie as tie
 
 returns : tie.Need-returns
 returns c = decides-false (λ h. clash (c .if1 .taken) (h .2))

@@ -6,8 +6,8 @@ use borrow.Author.Count.{below-more}
 use borrow.Author.Tests.{not-true, not-false}
 use Rattle.dispatcher.specs.Limits.{slotLimit}
 use Rattle.dispatcher.specs.Sound.{SlotKept}
-use Rattle.soundness.proofs.illegal_slot.Tie as tie
 use Rattle.soundness.proofs.illegal_slot.Statement.{statement}
+use Rattle.soundness.proofs.illegal_slot.Tie as tie
 
 abbrev Inv-loop : tie.InvT-loop
 Inv-loop d cores s₀ s = (s ≤ slotLimit) × ((j : ℕ) → j < s → SlotKept d j)

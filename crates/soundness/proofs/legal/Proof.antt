@@ -4,8 +4,8 @@ use borrow.Author.Tests.{not-true, not-false}
 use borrow.Author.Needs.{needs}
 use Rattle.laws.proofs.Deciding.{decides-true, decides-false, decides-by, decides-not}
 use Rattle.masks.proofs.Bits.{legal-mask, missing-illegal}
-use Rattle.soundness.proofs.legal.Tie as tie
 use Rattle.soundness.proofs.legal.Statement.{statement}
+use Rattle.soundness.proofs.legal.Tie as tie
 
 is-used-requires : tie.Need-is-used-requires
 is-used-requires c κs = search needs

@@ -17,8 +17,8 @@ use Rattle.dispatcher.specs.Sound.{PlaceKept}
 use Rattle.dispatcher.specs.declared.Dispatcher.{Dispatcher}
 use Rattle.dispatcher.proofs.Reading.{order-read}
 use Rattle.soundness.proofs.Keeping.{GapBefore, gap-start, gap-open, gap-on, entry-decides, entry-above, entry-unused}
-use Rattle.soundness.proofs.misplaced.Tie as tie
 use Rattle.soundness.proofs.misplaced.Statement.{statement}
+use Rattle.soundness.proofs.misplaced.Tie as tie
 
 abbrev Inv-loop : tie.InvT-loop
 Inv-loop places d gap₀ k₀ gap k = (k ≤ slotLimit) × ((j : ℕ) → j < k → PlaceKept d j) × Decides (GapBefore d k) gap

@@ -16,8 +16,8 @@ use Rattle.dispatcher.specs.Sound.{SeatKept}
 use Rattle.dispatcher.specs.declared.Dispatcher.{Dispatcher}
 use Rattle.dispatcher.proofs.Reading.{seat-read}
 use Rattle.soundness.proofs.Keeping.{seat-decides, seat-above, seat-idle}
-use Rattle.soundness.proofs.misseated.Tie as tie
 use Rattle.soundness.proofs.misseated.Statement.{statement}
+use Rattle.soundness.proofs.misseated.Tie as tie
 
 abbrev Inv-loop : tie.InvT-loop
 Inv-loop places d firsts c₀ c = (c ≤ coreLimit) × ((j : ℕ) → j < c → SeatKept d j)

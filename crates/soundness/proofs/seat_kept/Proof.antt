@@ -3,8 +3,8 @@ use mathlib.Core.Path.{sym, _∙_}
 use native.Mathlib.Omega.{arith}
 use borrow.Author.Needs.{needs}
 use Rattle.laws.proofs.Deciding.{clash, decides-false}
-use Rattle.soundness.proofs.seat_kept.Tie as tie
 use Rattle.soundness.proofs.seat_kept.Statement.{statement}
+use Rattle.soundness.proofs.seat_kept.Tie as tie
 
 returns : tie.Need-returns
 returns c = decides-false (λ h. h .0 (c .if1 .taken))

@@ -9,8 +9,8 @@ use Rattle.dispatcher.specs.Limits.{coreLimit}
 use Rattle.dispatcher.specs.Slots.{seatAt}
 use Rattle.dispatcher.specs.Sound.{MissingKept}
 use Rattle.dispatcher.proofs.Reading.{seat-read}
-use Rattle.soundness.proofs.seated_missing.Tie as tie
 use Rattle.soundness.proofs.seated_missing.Statement.{statement}
+use Rattle.soundness.proofs.seated_missing.Tie as tie
 
 abbrev Inv-loop : tie.InvT-loop
 Inv-loop d c₀ c = (d .cores ≤ c) × ((j : ℕ) → j < c → MissingKept d j)

@@ -6,8 +6,8 @@ use Rattle.laws.specs.Decides.{Decides}
 use Rattle.laws.proofs.Deciding.{decides-is, decides-false, decides-by}
 use Rattle.dispatcher.specs.Sound.{CountLegal, SlotsLegal, OrderKept, MissingIdle, SeatsKept}
 use Rattle.soundness.proofs.Keeping.{counted-decides, nothing-decides}
-use Rattle.soundness.proofs.sound.Tie as tie
 use Rattle.soundness.proofs.sound.Statement.{statement}
+use Rattle.soundness.proofs.sound.Tie as tie
 
 -- what each search's test decides
 count : (c : tie.After-is-nothing) → Decides (CountLegal (c .before .before .args .d)) (c .is-nothing .result)

@@ -1,8 +1,8 @@
 -- `wrong_count` meets its promise.
 use mathlib.Core.Path.{refl}
 use borrow.Author.Needs.{needs}
-use Rattle.soundness.proofs.wrong_count.Tie as tie
 use Rattle.soundness.proofs.wrong_count.Statement.{statement}
+use Rattle.soundness.proofs.wrong_count.Tie as tie
 
 legal-count-requires : tie.Need-legal-count-requires
 legal-count-requires c κs = search needs

@@ -2,8 +2,8 @@
 use borrow.Author.Needs.{needs}
 use Rattle.dispatcher.proofs.Promises.{slot-below}
 use Rattle.tasks.proofs.Settling.{settles-promised}
-use Rattle.tasks.proofs.create.Tie as tie
 use Rattle.tasks.proofs.create.Statement.{statement}
+use Rattle.tasks.proofs.create.Tie as tie
 
 create-answer-requires : tie.Need-create-answer-requires
 create-answer-requires c κs = search needs

@@ -8,8 +8,8 @@ use Rattle.masks.proofs.Bits.{names-test}
 use Rattle.dispatcher.proofs.Judging.{firstOf}
 use Rattle.dispatcher.proofs.Testing.{used-decides}
 use Rattle.tasks.proofs.Model.{create-answers}
-use Rattle.tasks.proofs.create_answer.Tie as tie
 use Rattle.tasks.proofs.create_answer.Statement.{statement}
+use Rattle.tasks.proofs.create_answer.Tie as tie
 
 unsound : (c : tie.Then1) → c .before .sound .result ≡ false
 unsound c = not-true _ (c .if1 .taken)

@@ -2,8 +2,8 @@
 use borrow.Author.Needs.{needs}
 use Rattle.dispatcher.proofs.Promises.{slot-below}
 use Rattle.tasks.proofs.Settling.{settles-promised}
-use Rattle.tasks.proofs.delete.Tie as tie
 use Rattle.tasks.proofs.delete.Statement.{statement}
+use Rattle.tasks.proofs.delete.Tie as tie
 
 delete-answer-requires : tie.Need-delete-answer-requires
 delete-answer-requires c κs = search needs

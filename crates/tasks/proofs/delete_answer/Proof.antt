@@ -4,8 +4,8 @@ use native.Mathlib.Omega.{arith}
 use borrow.Author.Needs.{needs}
 use Rattle.dispatcher.proofs.Promises.{answers-one, answers-none}
 use Rattle.tasks.proofs.Naming.{named-refused, named-then}
-use Rattle.tasks.proofs.delete_answer.Tie as tie
 use Rattle.tasks.proofs.delete_answer.Statement.{statement}
+use Rattle.tasks.proofs.delete_answer.Tie as tie
 
 named-requires : tie.Need-named-requires
 named-requires c κs = search needs

@@ -6,8 +6,8 @@ use borrow.Author.Needs.{needs}
 use Rattle.dispatcher.proofs.Judging.{firstOf}
 use Rattle.dispatcher.proofs.Testing.{empty-is}
 use Rattle.tasks.proofs.Model.{named-answers}
-use Rattle.tasks.proofs.named.Tie as tie
 use Rattle.tasks.proofs.named.Statement.{statement}
+use Rattle.tasks.proofs.named.Tie as tie
 
 unsound : (c : tie.Then1) → c .before .sound .result ≡ false
 unsound c = not-true _ (c .if1 .taken)

@@ -1,8 +1,8 @@
 -- `written` meets its promise.
 use mathlib.Core.Path.{refl, sym, _∙_}
 use borrow.Author.Needs.{needs}
-use Rattle.tasks.proofs.written.Tie as tie
 use Rattle.tasks.proofs.written.Statement.{statement}
+use Rattle.tasks.proofs.written.Tie as tie
 
 still-requires : tie.Need-still-requires
 still-requires c κs = search needs

@@ -2,8 +2,8 @@
 use mathlib.Core.Path.{sym, ap}
 use borrow.Author.Needs.{needs}
 use Rattle.dispatcher.specs.Answers.{numberOf}
-use Rattle.dispatcher.proofs.Answer.number.Tie as tie
 use Rattle.dispatcher.proofs.Answer.number.Statement.{statement}
+use Rattle.dispatcher.proofs.Answer.number.Tie as tie
 
 enum-told : tie.Need-enum-told
 enum-told c = search needs

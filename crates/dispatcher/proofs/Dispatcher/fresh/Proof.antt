@@ -3,8 +3,8 @@ use borrow.Author.Tests.{not-true, not-false}
 use borrow.Author.Needs.{needs}
 use Rattle.laws.proofs.Deciding.{decides-is}
 use Rattle.dispatcher.proofs.Freshness.{freshly}
-use Rattle.dispatcher.proofs.Dispatcher.fresh.Tie as tie
 use Rattle.dispatcher.proofs.Dispatcher.fresh.Statement.{statement}
+use Rattle.dispatcher.proofs.Dispatcher.fresh.Tie as tie
 
 legal-count-requires : tie.Need-legal-count-requires
 legal-count-requires c κs = search needs

@@ -10,8 +10,8 @@ use Rattle.laws.proofs.Deciding.{decides-false, decides-true}
 use Rattle.dispatcher.specs.Limits.{slotLimit}
 use Rattle.dispatcher.specs.Slots.{orderAt}
 use Rattle.dispatcher.proofs.Reading.{order-read}
-use Rattle.dispatcher.proofs.Dispatcher.is_ready.Tie as tie
 use Rattle.dispatcher.proofs.Dispatcher.is_ready.Statement.{statement}
+use Rattle.dispatcher.proofs.Dispatcher.is_ready.Tie as tie
 
 abbrev Inv-loop : tie.InvT-loop
 Inv-loop slot self k₀ k = (k ≤ slotLimit) × ((j : ℕ) → j < k → orderAt self j ≢ slot)

@@ -2,8 +2,8 @@
 use native.Mathlib.Omega.{arith}
 use Rattle.laws.proofs.Deciding.{decides-false, decides-by, decides-le}
 use Rattle.dispatcher.specs.Limits.{coreLimit}
-use Rattle.dispatcher.proofs.Dispatcher.legal_count.Tie as tie
 use Rattle.dispatcher.proofs.Dispatcher.legal_count.Statement.{statement}
+use Rattle.dispatcher.proofs.Dispatcher.legal_count.Tie as tie
 
 returns : tie.Need-returns
 returns c = decides-false (λ l. omega (arith, l .0, c .if1 .taken))

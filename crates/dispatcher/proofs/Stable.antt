@@ -1,0 +1,54 @@
+-- A dispatcher that is not unsound is sound: each part of soundness is decided by a test.
+use Prim.Native.Nat.{ℕ}
+use mathlib.Core.Path.{_≡_}
+use mathlib.Core.Logic.{_⊎_, inl, inr}
+use mathlib.Core.Bool.{Bool, true, false}
+use native.Mathlib.Decide.{ℕ-discrete, decLe, decLt}
+use Rattle.laws.specs.Decides.{Decides}
+use Rattle.laws.proofs.Deciding.{cases, clash}
+use Rattle.masks.specs.Masks.{has}
+use Rattle.dispatcher.specs.Limits.{coreLimit, slotLimit, none, greatestPriority}
+use Rattle.dispatcher.specs.Slots.{taskAt, orderAt, seatAt, Ready}
+use Rattle.dispatcher.specs.Sound.{Sound}
+use Rattle.dispatcher.specs.Refusals.{IsUnsound}
+use Rattle.dispatcher.specs.declared.Dispatcher.{Dispatcher}
+use Rattle.dispatcher.proofs.Testing.{readyTest, ready-decides}
+
+by-dec : {P : Type 0} → Dec P → ((P → ⊥) → ⊥) → P
+by-dec (yes p) h = p
+by-dec (no n) h = absurd (h n)
+
+by-test : {P : Type 0} {b : Bool} → Decides P b → (b ≡ true) ⊎ (b ≡ false) → ((P → ⊥) → ⊥) → P
+by-test D (inl y) h = D .yes y
+by-test D (inr n) h = absurd (h (D .no n))
+
+by-bool : (b : Bool) → ((b ≡ true → ⊥) → ⊥) → b ≡ true
+by-bool b h = go (cases b)
+  where
+    go : (b ≡ true) ⊎ (b ≡ false) → b ≡ true
+    go (inl y) = y
+    go (inr n) = absurd (h (λ y. clash y n))
+
+pub not-unready : (d : Dispatcher) (s : ℕ) → ((Ready d s → ⊥) → ⊥) → Ready d s
+not-unready d s h = by-test (ready-decides d s) (cases (readyTest d s)) h
+
+pub not-unsound : (d : Dispatcher) → (IsUnsound d → ⊥) → Sound d
+not-unsound d h = record {
+  count = (by-dec (decLe 1 (d .cores)) (λ n. h (λ S. n (S .count .0))), by-dec (decLe (d .cores) coreLimit) (λ n. h (λ S. n (S .count .1))));
+  slots = λ s l u. record {
+    priority = (by-dec (decLe 1 (taskAt d s .priority)) (λ n. h (λ S. n (S .slots s l u .priority .0))), by-dec (decLe (taskAt d s .priority) greatestPriority) (λ n. h (λ S. n (S .slots s l u .priority .1))));
+    mask = record { not-empty = λ e. h (λ S. S .slots s l u .mask .not-empty e); none-missing = λ k b. by-dec (decLt k (d .cores)) (λ n. h (λ S. n (S .slots s l u .mask .none-missing k b))) };
+  };
+  order = λ k l o. record {
+    slot = by-dec (decLt (orderAt d k) slotLimit) (λ n. h (λ S. n (S .order k l o .slot)));
+    used = λ e. h (λ S. S .order k l o .used e);
+    not-twice = λ j m e. h (λ S. S .order k l o .not-twice j m e);
+    no-gap = λ j m e. h (λ S. S .order k l o .no-gap j m e);
+  };
+  missing = λ c l m. by-dec (ℕ-discrete (seatAt d c) none) (λ n. h (λ S. n (S .missing c l m)));
+  seats = λ c l o. record {
+    ready = not-unready d (seatAt d c) (λ n. h (λ S. n (S .seats c l o .ready)));
+    once = λ b m e. h (λ S. S .seats c l o .once b m e);
+    allowed = by-bool (has (taskAt d (seatAt d c) .mask) c) (λ n. h (λ S. n (S .seats c l o .allowed)));
+  };
+}

@@ -1,0 +1,8 @@
+pub mod Freeing
+mod Sizing
+mod Sitting
+pub mod Model
+pub mod Same
+mod Reseating
+pub mod Keeping
+mod Turning

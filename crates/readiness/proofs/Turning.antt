@@ -1,0 +1,119 @@
+-- What is known where wake and block are accepted, and what a shift then makes of the dispatcher.
+use Prim.Native.Nat.{ℕ, _<_}
+use mathlib.Core.Path.{_≡_, refl, sym, _∙_, subst}
+use mathlib.Core.Logic.{_≢_, inl, inr}
+use mathlib.Core.List.{List}
+use native.Mathlib.Decide.{decLt}
+use native.Mathlib.Omega.{arith}
+use lib.ListN.{set}
+use Rattle.dispatcher.specs.Limits.{coreLimit, none}
+use Rattle.dispatcher.specs.Slots.{taskAt, seatAt, Used, Ready, Shaped}
+use Rattle.dispatcher.specs.Sound.{Sound}
+use Rattle.dispatcher.specs.Answers.{numberOf, Answers}
+use Rattle.dispatcher.specs.Reports.{stillOf}
+use Rattle.dispatcher.specs.declared.Answer.the-variants.{Done}
+use Rattle.dispatcher.specs.declared.Dispatcher.{Dispatcher}
+use Rattle.dispatcher.specs.declared.Outcome.{Outcome}
+use Rattle.dispatcher.proofs.Promises.{none-applies, slot-below}
+use Rattle.dispatcher.proofs.Stable.{not-unsound, not-unready}
+use Rattle.order.specs.Changes.{joinOrder, leaveOrder}
+use Rattle.order.proofs.Joining.{joined-new, joined-sound}
+use Rattle.shifting.specs.Board.{Runs, withSeats}
+use Rattle.shifting.specs.Arriving.{Arriving}
+use Rattle.shifting.specs.Filling.{Freed}
+use Rattle.shifting.specs.Shifts.{Arrived, Refilled}
+use Rattle.shifting.specs.declared.Shift.{Shift}
+use Rattle.shifting.proofs.Board.{core-below, legal, ready-real}
+use Rattle.readiness.specs.Wake.{Woken, wakeRefusals}
+use Rattle.readiness.specs.Block.{freedOf, Refills, Blocked, blockRefusals}
+use Rattle.readiness.specs.Seats.{CoreOf, Shifted}
+use Rattle.readiness.proofs.Freeing.{freed-idle, freed-sound}
+
+-- d with another wake order
+abbrev pub withOrder : Dispatcher → List ℕ → Dispatcher
+withOrder d l = record { cores = d .cores; tasks = d .tasks; order = l; seats = d .seats }
+
+seat-ready : {d : Dispatcher} {slot : ℕ} → Sound d → Runs d slot → Ready d slot
+seat-ready {d} S r = subst (Ready d) (r .sits) (S .seats (r .core) (core-below S (r .below)) (λ e. r .real (sym (r .sits) ∙ e)) .ready)
+
+-- ---- wake
+
+module _ {d : Dispatcher} {slot : ℕ} (h : Answers (wakeRefusals d slot) 0) where
+  woken-sound : Sound d
+  woken-sound = not-unsound d (λ u. none-applies h refl 1 (inl (refl, u)))
+
+  off : Ready d slot → ⊥
+  off r = none-applies h refl 9 (inr (inr (inr (inl (refl, r)))))
+
+  used : Used (taskAt d slot)
+  used e = none-applies h refl 5 (inr (inr (inl (refl, e))))
+
+  pub joined-arriving : {order : List ℕ} → Shaped d → order ≡ joinOrder (d .order) slot → Arriving (withOrder d order) slot
+  joined-arriving L q = rw q (record {
+    sound = joined-sound L woken-sound (slot-below h refl) off used;
+    waits = record { ready = joined-new L woken-sound (slot-below h refl) off; off = λ r. off (seat-ready woken-sound (record { real = r .real; core = r .core; below = r .below; sits = r .sits })) };
+  })
+
+pub arrived-woken : {d : Dispatcher} {slot : ℕ} {order : List ℕ} {s : Shift} {r : Outcome} → Shaped d → order ≡ joinOrder (d .order) slot → Arrived (withOrder d order) slot s → Shifted (withOrder d order) s r
+    → (numberOf (r .report .answer) ≡ 0) × Woken d slot r
+arrived-woken {d} {slot} {order} {s} {r} L q a h = rw (h .is) (refl, woken)
+  where
+    woken : Woken d slot (record { report = record { answer = Done; moves = s .moves; started = s .started; stopped = s .stopped }; dispatcher = withSeats (withOrder d order) (s .seats) })
+    woken = rw q (record { rest = refl; size = h .size ∙ sym (L .seats); arrives = rw q at a })
+
+-- ---- block
+
+pub core-below-limit : {seats : List ℕ} {slot core : ℕ} → core ≢ coreLimit → CoreOf seats slot core → core < coreLimit
+core-below-limit n (inl s) = s .below
+core-below-limit n (inr s) = absurd (n (s .is))
+
+module _ {d : Dispatcher} {slot : ℕ} (h : Answers (blockRefusals d slot) 0) where
+  pub blocked-sound : Sound d
+  blocked-sound = not-unsound d (λ u. none-applies h refl 1 (inl (refl, u)))
+
+  pub blocked-ready : Ready d slot
+  blocked-ready = not-unready d slot (λ n. none-applies h refl 10 (inr (inr (inr (inl (refl, n))))))
+
+  -- a slot that sits on one of all cores sits on one below the count
+  sits-below : {c : ℕ} → c < coreLimit → seatAt d c ≡ slot → c < d .cores
+  sits-below {c} l q = go (decLt c (d .cores))
+    where
+      go : Dec (c < d .cores) → c < d .cores
+      go (yes k) = k
+      go (no k) = absurd (ready-real blocked-ready (sym q ∙ blocked-sound .missing c l (omega arith)))
+
+  pub core-idle : {order seats : List ℕ} {core : ℕ} → Shaped d → order ≡ leaveOrder (d .order) slot → seats ≡ set (d .seats) core none → core ≢ coreLimit → CoreOf (d .seats) slot core → Freed (withSeats (withOrder d order) seats) core
+  core-idle L q p n (inr s) = absurd (n (s .is))
+  core-idle {core = core} L q p n (inl s) =
+      let k = sits-below (s .below) (s .sits) in
+      rw (q, p) (record { sound = freed-sound L blocked-sound k (s .sits) .1; below = k; idle = freed-idle L blocked-sound k (s .sits) })
+
+  -- it sits nowhere: the waiting task has left, and that is all
+  pub waited-blocked : {order : List ℕ} {core : ℕ} {r : Outcome} → order ≡ leaveOrder (d .order) slot → CoreOf (d .seats) slot core → core ≡ coreLimit
+      → r ≡ record { report = stillOf Done; dispatcher = withOrder d order } → (numberOf (r .report .answer) ≡ 0) × Blocked d slot r
+  waited-blocked q (inl s) e p = absurd (omega (arith, s .below))
+  waited-blocked {order} {core} {r} q (inr s) e p = rw p (refl, blocked)
+    where
+      blocked : Blocked d slot (record { report = stillOf Done; dispatcher = withOrder d order })
+      blocked = rw q (record { waited = λ _. (refl, refl); ran = λ z l t. absurd (s .none-sits z (core-below blocked-sound l) t) })
+
+  -- it sits on a core, which is filled
+  pub refilled-blocked : {order seats : List ℕ} {core : ℕ} {s : Shift} {r : Outcome} → Shaped d → order ≡ leaveOrder (d .order) slot → seats ≡ set (d .seats) core none → core ≢ coreLimit → CoreOf (d .seats) slot core
+      → Refilled (withSeats (withOrder d order) seats) core s → Shifted (withSeats (withOrder d order) seats) s r → (numberOf (r .report .answer) ≡ 0) × Blocked d slot r
+  refilled-blocked L q p n (inr c) f h = absurd (n (c .is))
+  refilled-blocked {order} {seats} {core} {s} {r} L q p n (inl c) f h = rw (h .is) (refl, blocked)
+    where
+      below : core < d .cores
+      below = sits-below (c .below) (c .sits)
+
+      after : Outcome
+      after = record { report = record { answer = Done; moves = s .moves; started = s .started; stopped = s .stopped }; dispatcher = withSeats (withOrder d order) (s .seats) }
+
+      refills : Refills (freedOf d slot core) core after
+      refills = rw q (record { rest = refl; size = h .size ∙ sym (freed-sound L blocked-sound below (c .sits) .0 .seats); fills = rw (q, p) at (f .0); stops = f .1 })
+
+      blocked : Blocked d slot after
+      blocked = record {
+        waited = λ w. absurd (w .off (record { real = ready-real blocked-ready; core = core; below = below; sits = c .sits }));
+        ran = λ z l t. subst (λ (y : ℕ). Refills (freedOf d slot y) y after) (legal blocked-sound .once core z below l (λ e. ready-real blocked-ready (sym (c .sits) ∙ e)) (c .sits ∙ sym t)) refills;
+      }

@@ -1,0 +1,3 @@
+pub mod Wake
+pub mod Block
+pub mod Seats

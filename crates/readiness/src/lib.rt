@@ -1,0 +1,133 @@
+// Wake and block by value: a task becomes ready and seeks a core, or is no longer ready and its core seeks another task.
+ghost use mathlib.Core.Path.{_≡_};
+ghost use Rattle.dispatcher.specs.Answers.{numberOf, Answers};
+ghost use Rattle.readiness.specs.Wake.{Woken, wakeRefusals, Wakes};
+ghost use Rattle.readiness.specs.Block.{Blocked, blockRefusals, Blocks};
+ghost use Rattle.readiness.specs.Seats.{CoreOf, Shifted};
+use dispatcher::Answer;
+use dispatcher::Dispatcher;
+use dispatcher::Outcome;
+use dispatcher::Report;
+use shifting::Shift;
+
+fn wake_answer(d: Dispatcher, slot: u16) -> Answer
+    ensures { λ r. ⌜ Answers (wakeRefusals d slot) (numberOf r) ⌝ }
+{
+    let answer = tasks::named(d, slot);
+    if answer.number() != 0 {
+        return answer;
+    }
+    if d.is_ready(slot) {
+        return Answer::AlreadyReady;
+    }
+    Answer::Done
+}
+
+fn block_answer(d: Dispatcher, slot: u16) -> Answer
+    ensures { λ r. ⌜ Answers (blockRefusals d slot) (numberOf r) ⌝ }
+{
+    let answer = tasks::named(d, slot);
+    if answer.number() != 0 {
+        return answer;
+    }
+    if !d.is_ready(slot) {
+        return Answer::NotReady;
+    }
+    Answer::Done
+}
+
+// The core on which the slot sits, or CORES.
+fn core_of(seats: [u16; Dispatcher::CORES], slot: u16) -> usize
+    ensures { λ r. ⌜ CoreOf seats slot r ⌝ }
+{
+    let mut c: usize = 0;
+    while c < Dispatcher::CORES {
+        if seats[c] == slot {
+            return c;
+        }
+        c += 1;
+    }
+    c
+}
+
+fn shifted(d: Dispatcher, shift: Shift) -> Outcome
+    ensures { λ r. ⌜ Shifted d shift r ⌝ }
+{
+    let report = Report {
+        answer: Answer::Done,
+        moves: shift.moves,
+        started: shift.started,
+        stopped: shift.stopped,
+    };
+    let seats = shift.seats;
+    let mut next = d;
+    next.seats = seats;
+    Outcome {
+        report,
+        dispatcher: next,
+    }
+}
+
+fn woken(d: Dispatcher, slot: u16) -> Outcome
+    requires { ⌜ Answers (wakeRefusals d slot) 0 ⌝ }
+    ensures { λ r. ⌜ (numberOf (r .report .answer) ≡ 0) × Woken d slot r ⌝ }
+{
+    let order = d.order;
+    let longer = order::join(order, slot);
+    let mut joined = d;
+    joined.order = longer;
+    let shift = shifting::arrive(joined, slot);
+    shifted(joined, shift)
+}
+
+fn blocked(d: Dispatcher, slot: u16) -> Outcome
+    requires { ⌜ Answers (blockRefusals d slot) 0 ⌝ }
+    ensures { λ r. ⌜ (numberOf (r .report .answer) ≡ 0) × Blocked d slot r ⌝ }
+{
+    let order = d.order;
+    let shorter = order::leave(order, slot);
+    let seats = d.seats;
+    let core = core_of(seats, slot);
+    let mut left = d;
+    left.order = shorter;
+    if core == Dispatcher::CORES {
+        let report = Report::still(Answer::Done);
+        return Outcome {
+            report,
+            dispatcher: left,
+        };
+    }
+    left.seats[core] = Dispatcher::NONE;
+    let shift = shifting::fill(left, core);
+    shifted(left, shift)
+}
+
+// The task becomes ready, last among equals, and seeks a core.
+pub fn wake(d: Dispatcher, slot: u16) -> Outcome
+    ensures { λ r. ⌜ Wakes d slot r ⌝ }
+{
+    let answer = wake_answer(d, slot);
+    if answer.number() != 0 {
+        let report = Report::still(answer);
+        return Outcome {
+            report,
+            dispatcher: d,
+        };
+    }
+    woken(d, slot)
+}
+
+// The task is no longer ready; if it ran, its core seeks another.
+pub fn block(d: Dispatcher, slot: u16) -> Outcome
+    ensures { λ r. ⌜ Blocks d slot r ⌝ }
+{
+    let answer = block_answer(d, slot);
+    if answer.number() != 0 {
+        let report = Report::still(answer);
+        return Outcome {
+            report,
+            dispatcher: d,
+        };
+    }
+    blocked(d, slot)
+}

@@ -1,0 +1,5 @@
+mod Tabling
+mod Picking
+mod Seeking
+mod Deciding
+pub mod Board

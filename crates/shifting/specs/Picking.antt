@@ -1,0 +1,40 @@
+-- The last task on some cores, and the first waiting task that reaches some cores.
+use Prim.Native.Nat.{ℕ, _≤_, _<_}
+use mathlib.Core.Path.{_≡_}
+use mathlib.Core.Logic.{_≢_}
+use mathlib.Core.Bool.{Bool, true, not, _&&_}
+use mathlib.Core.List.{List}
+use lib.Bits.{bitAnd}
+use lib.Dec.{eqb, leb}
+use Rattle.laws.specs.Decides.{Decides}
+use Rattle.laws.specs.Pick.{Picks}
+use Rattle.masks.specs.Masks.{has}
+use Rattle.dispatcher.specs.Limits.{coreLimit, slotLimit, none}
+use Rattle.dispatcher.specs.Slots.{taskAt, seatAt, Ready}
+use Rattle.dispatcher.specs.declared.Dispatcher.{Dispatcher}
+use Rattle.order.specs.ComesBefore.{priorityOf, wokeAt}
+use Rattle.order.specs.Places.{FirstPlaces}
+use Rattle.order.specs.Ranks.{rankBy}
+use Rattle.shifting.specs.Board.{Waits}
+
+abbrev pub rankAt : Dispatcher → ℕ → ℕ
+rankAt d t = rankBy (priorityOf d t) (wokeAt d t)
+
+-- of the cores in the mask, all of them held, r is the one with the last task; the core count where the mask has none
+abbrev pub LastOn : Dispatcher → ℕ → ℕ → Type 0
+LastOn d seen r = Picks (d .cores) (λ a b. leb (rankAt d (seatAt d a)) (rankAt d (seatAt d b))) (has seen) (d .cores) r
+
+pub record Held (d : Dispatcher) (places : List ℕ) (seen : ℕ) : Type 0 where
+  pub few : d .cores ≤ coreLimit
+  pub table : FirstPlaces (d .order) places
+  pub ready : (c : ℕ) → c < d .cores → has seen c ≡ true → Ready d (seatAt d c)
+
+-- a slot is in the wake order, on no core, and its mask meets the cores in lead
+abbrev pub seekTest : ℕ → ℕ → ℕ → ℕ → Bool
+seekTest mask place core lead = not (eqb place none) && (eqb core none && not (eqb (bitAnd mask lead) 0))
+
+-- of the waiting tasks whose mask meets the cores in lead, r is the first; the mark where there is none
+pub record FirstSeeking (d : Dispatcher) (lead r : ℕ) : Type 0 where
+  pub test : ℕ → Bool
+  pub tells : (w : ℕ) → w < slotLimit → Decides (Waits d w × (bitAnd (taskAt d w .mask) lead ≢ 0)) (test w)
+  pub picks : Picks none (λ a b. leb (rankAt d b) (rankAt d a)) test slotLimit r

@@ -1,0 +1,209 @@
+// Shifts: a waiting task seeks a core, or an idle core seeks a waiting task, along the chain that document 01 chooses. Wake and block are one of them after a change of the wake order.
+ghost use mathlib.Core.Path.{_≡_};
+ghost use Rattle.dispatcher.specs.Sound.{Sound};
+ghost use Rattle.order.specs.Places.{FirstPlaces};
+ghost use Rattle.shifting.specs.Arriving.{Arriving, Pushing};
+ghost use Rattle.shifting.specs.Filling.{Freed};
+ghost use Rattle.shifting.specs.Shifts.{Arrived, Refilled, stillAt, Takable, takenBy};
+ghost use Rattle.shifting.specs.Tables.{SittersOf, IdleCores};
+ghost use Rattle.shifting.specs.Picking.{LastOn, Held, seekTest, FirstSeeking};
+use dispatcher::Dispatcher;
+use search::Route;
+
+// The seats after a shift, and what a call reports of it.
+pub struct Shift {
+    pub seats: [u16; Dispatcher::CORES],
+    pub moves: u8,
+    // The slot that started, or NONE, and the slot that stopped, or NONE.
+    pub started: u16,
+    pub stopped: u16,
+}
+
+// Nobody moves, starts or stops.
+fn still(seats: [u16; Dispatcher::CORES]) -> Shift
+    ensures { λ r. ⌜ r ≡ stillAt seats ⌝ }
+{
+    Shift {
+        seats,
+        moves: 0,
+        started: Dispatcher::NONE,
+        stopped: Dispatcher::NONE,
+    }
+}
+
+// The slot takes the chain.
+fn taken(seats: [u16; Dispatcher::CORES], route: Route, slot: u16, stopped: u16) -> Shift
+    requires { ⌜ Takable route ⌝ }
+    ensures { λ r. ⌜ r ≡ takenBy seats route slot stopped ⌝ }
+{
+    let cores = route.cores;
+    let length = route.length;
+    let moves = (length - 1) as u8;
+    let after = search::take_chain(seats, cores, length, slot);
+    Shift {
+        seats: after,
+        moves,
+        started: slot,
+        stopped,
+    }
+}
+
+// The mask of the task on each core, and 0 for an idle core.
+fn sitters(d: Dispatcher) -> [u32; Dispatcher::CORES]
+    ensures { λ r. ⌜ SittersOf d r ⌝ }
+{
+    let mut masks = [0u32; Dispatcher::CORES];
+    let mut c: usize = 0;
+    while c < Dispatcher::CORES {
+        let slot = d.seats[c] as usize;
+        if slot < Dispatcher::SLOTS {
+            let t = d.tasks[slot];
+            masks[c] = t.mask;
+        }
+        c += 1;
+    }
+    masks
+}
+
+fn idle_cores(d: Dispatcher) -> u32
+    ensures { λ r. ⌜ IdleCores d r ⌝ }
+{
+    let mut idle: u32 = 0;
+    let mut c: usize = 0;
+    while c < Dispatcher::CORES {
+        let held = d.seats[c];
+        if held == Dispatcher::NONE {
+            idle = masks::add(idle, c);
+        }
+        c += 1;
+    }
+    idle
+}
+
+// Of the cores in the mask the one whose task all the others come before, or the core count.
+fn last_on(d: Dispatcher, places: &[u16; Dispatcher::SLOTS], seen: u32) -> usize
+    requires { ⌜ Held d (now places) seen ⌝ }
+    ensures { λ r. ⌜ LastOn d seen r ⌝ }
+{
+    let n = d.cores as usize;
+    let mut last = n;
+    let mut rank: u32 = 0;
+    let mut c: usize = 0;
+    while c < n {
+        if masks::has(seen, c) {
+            let slot = d.seats[c] as usize;
+            let t = d.tasks[slot];
+            let place = places[slot];
+            let its = order::rank(t.priority, place);
+            if rank <= its {
+                last = c;
+                rank = its;
+            }
+        }
+        c += 1;
+    }
+    last
+}
+
+fn seeks(mask: u32, place: u16, core: u16, lead: u32) -> bool
+    ensures { λ r. ⌜ r ≡ seekTest mask place core lead ⌝ }
+{
+    if place == Dispatcher::NONE {
+        return false;
+    }
+    if core != Dispatcher::NONE {
+        return false;
+    }
+    (mask & lead) != 0
+}
+
+// Of the waiting tasks whose mask meets the cores the one that comes before the rest, or NONE.
+fn first_seeking(d: Dispatcher, lead: u32) -> u16
+    requires { ⌜ Sound d ⌝ }
+    ensures { λ r. ⌜ FirstSeeking d lead r ⌝ }
+{
+    let order = d.order;
+    let places = order::first_places(&order);
+    let seats = d.seats;
+    let cores = order::first_places(&seats);
+    let mut first = Dispatcher::NONE;
+    let mut rank: u32 = u32::MAX;
+    let mut s: usize = 0;
+    while s < Dispatcher::SLOTS {
+        let t = d.tasks[s];
+        let place = places[s];
+        if seeks(t.mask, place, cores[s], lead) {
+            let its = order::rank(t.priority, place);
+            if its <= rank {
+                first = s as u16;
+                rank = its;
+            }
+        }
+        s += 1;
+    }
+    first
+}
+
+// No idle core is reached: the slot pushes off the last task on the cores that it reaches, if it comes before that one.
+fn push(d: Dispatcher, masks: &[u32; Dispatcher::CORES], slot: u16) -> Shift
+    requires { ⌜ Pushing d (now masks) slot ⌝ }
+    ensures { λ r. ⌜ Arrived d slot r ⌝ }
+{
+    let n = d.cores as usize;
+    let at = slot as usize;
+    let t = d.tasks[at];
+    let order = d.order;
+    let places = order::first_places(&order);
+    let seen = search::reached(masks, t.mask, n);
+    let last = last_on(d, &places, seen);
+    let seats = d.seats;
+    if last == n {
+        return still(seats);
+    }
+    let v = seats[last];
+    let loser = d.tasks[v as usize];
+    let place = places[at];
+    let its = places[v as usize];
+    if order::rank(loser.priority, its) <= order::rank(t.priority, place) {
+        return still(seats);
+    }
+    let target = masks::add(0, last);
+    let route = search::search(masks, t.mask, target, n);
+    taken(seats, route, slot, v)
+}
+
+// The task in the slot, ready and on no core, seeks one.
+pub fn arrive(d: Dispatcher, slot: u16) -> Shift
+    requires { ⌜ Arriving d slot ⌝ }
+    ensures { λ r. ⌜ Arrived d slot r ⌝ }
+{
+    let masks = sitters(d);
+    let idle = idle_cores(d);
+    let t = d.tasks[slot as usize];
+    let n = d.cores as usize;
+    let route = search::search(&masks, t.mask, idle, n);
+    if route.found {
+        let seats = d.seats;
+        return taken(seats, route, slot, Dispatcher::NONE);
+    }
+    push(d, &masks, slot)
+}
+
+// The core, which is idle, seeks a waiting task.
+pub fn fill(d: Dispatcher, core: usize) -> Shift
+    requires { ⌜ Freed d core ⌝ }
+    ensures { λ r. ⌜ Refilled d core r ⌝ }
+{
+    let n = d.cores as usize;
+    let masks = sitters(d);
+    let target = masks::add(0, core);
+    let lead = search::leading(&masks, target, n);
+    let first = first_seeking(d, lead);
+    let seats = d.seats;
+    if first == Dispatcher::NONE {
+        return still(seats);
+    }
+    let t = d.tasks[first as usize];
+    let route = search::search(&masks, t.mask, target, n);
+    taken(seats, route, first, Dispatcher::NONE)
+}
