@@ -57,9 +57,9 @@ ready-after n (s ∷ l) d h t = let k = sound-after n l (h .0) (h .1) in ready-n
 pub demand-2 : (n : ℕ) (l : List Step) (d : Dispatcher) → After n l d → Demand2 l d
 demand-2 n l d h = record { ready = ready-after n l d h; seats = rule-after n l d h }
 
-pub demand-3 : (n : ℕ) (l : List Step) (d : Dispatcher) (c : Call) (r : Outcome) → After n l d → Fits c → Does c d r → numberOf (r .report .answer) ≡ 0
+pub demand-3 : (n : ℕ) (l : List Step) (d : Dispatcher) (c : Call) (r : Outcome) → After n l d → Does c d r → numberOf (r .report .answer) ≡ 0
     → LeastIn (r .dispatcher) (seatAt d) (seatAt (r .dispatcher)) (r .report .moves)
-demand-3 n l d c r h fits does = let k = sound-after n l d h in does-rule c r (k .0) (k .1) (rule-after n l d h) does .1
+demand-3 n l d c r h does = let k = sound-after n l d h in does-rule c r (k .0) (k .1) (rule-after n l d h) does .1
 
 -- ---- refusals
 

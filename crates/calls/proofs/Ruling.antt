@@ -19,7 +19,6 @@ use Rattle.dispatcher.specs.declared.Outcome.{Outcome}
 use Rattle.dispatcher.proofs.Promises.{none-applies}
 use Rattle.dispatcher.proofs.Freshness.{freshly-keeps}
 use Rattle.order.specs.ComesBefore.{priorityOf, ComesBefore}
-use Rattle.order.proofs.Waking.{ready-used}
 use Rattle.shifting.specs.Rule.{KeepsIn, LeastIn}
 use Rattle.shifting.proofs.Board.{legal}
 use Rattle.tasks.specs.Table.{withTask, Writes}
@@ -27,6 +26,7 @@ use Rattle.tasks.specs.Create.{Creates}
 use Rattle.tasks.specs.Delete.{Deletes}
 use Rattle.readiness.proofs.Keeping.{promised-keeps, Rule, promised-rule, some-core, wake-rule, block-rule}
 use Rattle.calls.specs.Call.{Call, create, delete, wake, block, Does}
+use Rattle.tasks.proofs.Keeping.{created-off}
 
 -- ---- fresh
 
@@ -80,11 +80,6 @@ module _ (d : Dispatcher) (slot : ℕ) (v : Task) (off : Ready d slot → ⊥) w
   writes-ready W t = rw (W .written) (ready-written, written-ready)
 
 -- ---- create and delete
-
-module _ {d : Dispatcher} {slot priority mask : ℕ} {r : Outcome} (S : Sound d) (C : Creates d slot priority mask r) (z : numberOf (r .report .answer) ≡ 0) where
-  -- the slot was empty
-  created-off : Ready d slot → ⊥
-  created-off q = none-applies (C .answer) z 4 (inr (inr (inl (refl, ready-used S q))))
 
 pub create-rule : {d : Dispatcher} {slot priority mask : ℕ} {r : Outcome} → Sound d → KeepsIn d (seatAt d) → Creates d slot priority mask r
     → KeepsIn (r .dispatcher) (seatAt (r .dispatcher)) × (numberOf (r .report .answer) ≡ 0 → LeastIn (r .dispatcher) (seatAt d) (seatAt (r .dispatcher)) (r .report .moves))

@@ -5,3 +5,4 @@ pub mod Same
 pub mod Freshness
 pub mod Reading
 pub mod Stable
+pub mod Ready

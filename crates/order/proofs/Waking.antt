@@ -1,18 +1,19 @@
 -- A ready task: its place in the wake order, and that it is a task of legal priority.
 use Prim.Native.Nat.{ℕ, _<_}
-use mathlib.Core.Path.{_≡_, sym, subst}
+use mathlib.Core.Path.{_≡_, sym}
 use mathlib.Core.Logic.{_≢_, inl, inr}
 use mathlib.Core.List.{List}
 use native.Mathlib.Decide.{decLt}
 use native.Mathlib.Omega.{arith}
 use lib.ListN.{length, getD, List·getD-eq-default}
 use Rattle.dispatcher.specs.Limits.{slotLimit, none, LegalPriority}
-use Rattle.dispatcher.specs.Slots.{taskAt, orderAt, Used, Ready, Shaped}
+use Rattle.dispatcher.specs.Slots.{orderAt, Ready, Shaped}
 use Rattle.dispatcher.specs.Sound.{Sound}
 use Rattle.dispatcher.specs.declared.Dispatcher.{Dispatcher}
 use Rattle.order.specs.Places.{FirstPlace, FirstPlaces, placesOf}
 use Rattle.order.specs.ComesBefore.{priorityOf, wokeAt}
 use Rattle.order.proofs.Standing.{place-holds, place-most, place-is}
+use Rattle.dispatcher.proofs.Ready.{ready-held, ready-used}
 
 -- ---- its place
 
@@ -23,9 +24,6 @@ held-within l {k} held = go (decLt k (length l))
     go : Dec (k < length l) → k < length l
     go (yes b) = b
     go (no b) = absurd (held (List·getD-eq-default l none {n = k} (omega arith)))
-
-ready-held : {d : Dispatcher} {t : ℕ} → (r : Ready d t) → orderAt d (r .place) ≢ none
-ready-held r e = omega (arith, r .slot, r .stands, e)
 
 pub woke-within : {d : Dispatcher} {t : ℕ} → Ready d t → wokeAt d t < length (d .order)
 woke-within {d} {t} r = omega (arith, place-most (d .order) t none (r .stands), held-within (d .order) (ready-held r))
@@ -42,9 +40,6 @@ places-woke {d} {places} {t} F r = go (F .each t (r .slot))
     go (inr f) = absurd (f .nowhere (r .place) (omega arith) (omega (arith, r .within, held-within (d .order) (ready-held r))) (r .stands))
 
 -- ---- its task
-
-pub ready-used : {d : Dispatcher} {t : ℕ} → Sound d → Ready d t → Used (taskAt d t)
-ready-used {d} {t} S r = subst (λ (v : ℕ). Used (taskAt d v)) (r .stands) (S .order (r .place) (r .within) (ready-held r) .used)
 
 pub ready-priority : {d : Dispatcher} {t : ℕ} → Sound d → Ready d t → LegalPriority (priorityOf d t)
 ready-priority {d} {t} S r = S .slots t (r .slot) (ready-used S r) .priority

@@ -27,12 +27,13 @@ use Rattle.order.proofs.Leaving.{left-shaped, left-only, left-old, left-before,
 use Rattle.shifting.specs.Board.{Runs, Waits, withSeats}
 use Rattle.shifting.specs.Picking.{rankAt}
 use Rattle.shifting.specs.Rule.{KeepsIn, LeastIn}
-use Rattle.shifting.proofs.Board.{legal, ranked, ready-real}
+use Rattle.shifting.proofs.Board.{legal, ranked}
 use Rattle.readiness.specs.Wake.{Woken, Wakes}
 use Rattle.readiness.specs.Block.{freedOf, Refills, Blocks}
 use Rattle.readiness.proofs.Freeing.{freed-idle, freed-sound}
 use Rattle.readiness.proofs.Same.{block-was}
 use Rattle.readiness.proofs.Reseating.{reseated-ready, ready-before, reseated-keeps, reseated-least, reseated}
+use Rattle.dispatcher.proofs.Ready.{ready-real}
 
 -- ---- a call that may be refused
 
@@ -157,7 +158,7 @@ module _ {d : Dispatcher} {slot z : ℕ} {r : Outcome} (L : Shaped d) (S : Sound
   ran-rule ready K =
       let freed = set (d .seats) z none in
       let k = fills-keeps (some-core S) (ranked L S) (gone-ranked slot L S freed) K (gone-only slot L S freed) (gone-old slot L S freed) below sits ready (λ t q. ready-real q)
-      (freed-idle L S below sits) (λ c n. getD-set-other (d .seats) z c none none n) (F .fills) in
+      (freed-idle L S (ready-real ready) below sits) (λ c n. getD-set-other (d .seats) z c none none n) (F .fills) in
       rw (F .rest) (reseated-keeps (r .dispatcher .seats) (k .0), reseated-least (r .dispatcher .seats) (k .1))
 
 -- ---- a block
@@ -176,7 +177,7 @@ module _ {d : Dispatcher} {slot : ℕ} {r : Outcome} (L : Shaped d) (S : Sound d
     where
       done : (y : numberOf (r .report .answer) ≡ 0) → Runs d slot ⊎ Waits d slot → Shaped (r .dispatcher) × Sound (r .dispatcher)
       done y (inl on) =
-          let f = freed-sound L S (on .below) (on .sits) in
+          let f = freed-sound L S (on .real) (on .below) (on .sits) in
           refills-keeps (f .0) (f .1) (B .done y .ran (on .core) (on .below) (on .sits))
       done y (inr w) = rw (B .done y .waited w .0) (waited-keeps L S w)
 

@@ -1,8 +1,8 @@
+mod Reseating
 pub mod Freeing
+mod Turning
 mod Sizing
 mod Sitting
 pub mod Model
 pub mod Same
-mod Reseating
 pub mod Keeping
-mod Turning

@@ -124,7 +124,7 @@ blocked : {d : Dispatcher} {slot : ℕ} → Shaped d → Sound d → slot ≢ no
 blocked {d} {slot} L S real = go (cases (runTest d slot)) (run-decides L S real)
   where
     go : (runTest d slot ≡ true) ⊎ (runTest d slot ≡ false) → Decides (Runs d slot) (runTest d slot) → (numberOf (blockedOf d slot .report .answer) ≡ 0) × Blocked d slot (blockedOf d slot)
-    go (inl y) D = rw y (refl, record { waited = λ w. absurd (w .off (D .yes y)); ran = λ z l e. rw (here z l e) (let k = freed-sound L S there sits in refills (seatOf d slot) (k .0) (k .1)) })
+    go (inl y) D = rw y (refl, record { waited = λ w. absurd (w .off (D .yes y)); ran = λ z l e. rw (here z l e) (let k = freed-sound L S real there sits in refills (seatOf d slot) (k .0) (k .1)) })
       where
         there : seatOf d slot < d .cores
         there = ltb-true (seatOf d slot) (d .cores) y

@@ -23,11 +23,12 @@ use Rattle.shifting.specs.Arriving.{Arriving}
 use Rattle.shifting.specs.Filling.{Freed}
 use Rattle.shifting.specs.Shifts.{Arrived, Refilled}
 use Rattle.shifting.specs.declared.Shift.{Shift}
-use Rattle.shifting.proofs.Board.{core-below, legal, ready-real}
+use Rattle.shifting.proofs.Board.{core-below, legal}
 use Rattle.readiness.specs.Wake.{Woken, wakeRefusals}
 use Rattle.readiness.specs.Block.{freedOf, Refills, Blocked, blockRefusals}
 use Rattle.readiness.specs.Seats.{CoreOf, Shifted}
 use Rattle.readiness.proofs.Freeing.{freed-idle, freed-sound}
+use Rattle.dispatcher.proofs.Ready.{ready-real}
 
 -- d with another wake order
 abbrev pub withOrder : Dispatcher → List ℕ → Dispatcher
@@ -86,7 +87,7 @@ module _ {d : Dispatcher} {slot : ℕ} (h : Answers (blockRefusals d slot) 0) wh
   core-idle L q p n (inr s) = absurd (n (s .is))
   core-idle {core = core} L q p n (inl s) =
       let k = sits-below (s .below) (s .sits) in
-      rw (q, p) (record { sound = freed-sound L blocked-sound k (s .sits) .1; below = k; idle = freed-idle L blocked-sound k (s .sits) })
+      rw (q, p) (record { sound = freed-sound L blocked-sound (ready-real blocked-ready) k (s .sits) .1; below = k; idle = freed-idle L blocked-sound (ready-real blocked-ready) k (s .sits) })
 
   -- it sits nowhere: the waiting task has left, and that is all
   pub waited-blocked : {order : List ℕ} {core : ℕ} {r : Outcome} → order ≡ leaveOrder (d .order) slot → CoreOf (d .seats) slot core → core ≡ coreLimit
@@ -110,7 +111,7 @@ module _ {d : Dispatcher} {slot : ℕ} (h : Answers (blockRefusals d slot) 0) wh
       after = record { report = record { answer = Done; moves = s .moves; started = s .started; stopped = s .stopped }; dispatcher = withSeats (withOrder d order) (s .seats) }
 
       refills : Refills (freedOf d slot core) core after
-      refills = rw q (record { rest = refl; size = h .size ∙ sym (freed-sound L blocked-sound below (c .sits) .0 .seats); fills = rw (q, p) at (f .0); stops = f .1 })
+      refills = rw q (record { rest = refl; size = h .size ∙ sym (freed-sound L blocked-sound (ready-real blocked-ready) below (c .sits) .0 .seats); fills = rw (q, p) at (f .0); stops = f .1 })
 
       blocked : Blocked d slot after
       blocked = record {

@@ -10,7 +10,6 @@ use lib.Dec.{eqb, ltb, leb}
 use borrow.Author.Tests.{ltb-true, ltb-false}
 use Rattle.laws.proofs.Deciding.{clash}
 use Rattle.laws.proofs.Testing.{eqb-eq, eqb-true, and-both, both-and, eqb-false, eqb-ne, not-false, not-true}
-use Rattle.seating.proofs.Choice.{chosen-same}
 use Rattle.seating.proofs.Near.{walk, Graph, Marked, Missed, levels-chosen, levels-none, lowest, marked-start, missed-next, turn, turn-kept, turn-marked}
 use Rattle.seating.specs.Chosen.{Chosen, Unreached}
 use Rattle.seating.specs.Reached.{Reached}
@@ -97,23 +96,6 @@ pub chosenOf-says : (n e : ℕ) (may : ℕ → ℕ → Bool) (s : ℕ → ℕ) (
 unfolding chosenOf
 chosenOf-says n e may s x T = find-says n e may s x (goes e may s) (goes-graph n e may s) T n 0 (table (λ c. cond (T c) 0 (n + 1)) 0 n)
     (marked-start (omega arith) (at-table (λ c. cond (T c) 0 (n + 1)) n)) (λ i c m. absurd (omega arith)) (omega arith)
-
--- ---- what an outcome says determines it
-
-of-list : List ℕ → Way
-of-list [] = nothing
-of-list (a ∷ l) = takes a l
-
-module _ (n e : ℕ) (may : ℕ → ℕ → Bool) (s : ℕ → ℕ) (x : ℕ) (T : ℕ → Bool) where
-  pub says-same : (o o′ : Way) → Says n e may s x T o → Says n e may s x T o′ → o ≡ o′
-  unfolding of-list
-  says-same (takes c p) (takes d q) A B = ap of-list (chosen-same A B)
-  says-same (takes c p) nothing A B = absurd (B .none c p (A .chain) (A .hits))
-  says-same nothing (takes d q) A B = absurd (A .none d q (B .chain) (B .hits))
-  says-same nothing nothing A B = refl
-
-  pub is-chosenOf : (o : Way) → Says n e may s x T o → o ≡ chosenOf n e may s x T
-  is-chosenOf o A = says-same o (chosenOf n e may s x T) A (chosenOf-says n e may s x T)
 
 -- ---- whether x reaches core a, by computing it
 

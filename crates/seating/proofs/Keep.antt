@@ -252,16 +252,6 @@ module _ {n e : ℕ} {may : ℕ → ℕ → Bool} {rank : ℕ → ℕ} {R R′ :
         go w (inl u) = let S = H .shut w u in old w S (cases (S .K (last c p)))
         go w (inr q) = rw (q .0) (shut-last k P real (G .closed (last c p) at-last) l (omega arith))
 
--- Where no two ready tasks have one rank, no task of the cage but z's has z's rank, if none has a higher one.
-pub latest-strict : {n e : ℕ} {may : ℕ → ℕ → Bool} {rank : ℕ → ℕ} {R : ℕ → Type 0} {s : ℕ → ℕ} {x : ℕ} → Legal n e may R s
-    → ((t u : ℕ) → R t → R u → rank t ≡ rank u → t ≡ u) → (G : Cage n e may s x) → ((a : ℕ) → G .K a ≡ true → a < n) → (z : ℕ) → G .K z ≡ true
-    → ((a : ℕ) → G .K a ≡ true → rank (s a) ≤ rank (s z)) → (a : ℕ) → G .K a ≡ true → a ≢ z → rank (s a) < rank (s z)
-latest-strict {rank = rank} {s = s} L inj G below z k top a i d =
-    let l = top a i in
-    let o : rank (s a) ≢ rank (s z) = λ q. d (L .once a z (below a i) (below z k) (G .full a i)
-    (inj (s a) (s z) (L .ready a (below a i) (G .full a i)) (L .ready z (below z k) (G .full z k)) q)) in
-    omega arith
-
 -- ---- a core z is idle, and tasks that wait may reach it
 
 -- h is the first of the waiting tasks that reach z: it takes a chain there. Each other waiting task is shut in (it does not reach z), or comes after h.

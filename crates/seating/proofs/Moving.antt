@@ -9,7 +9,7 @@ use native.Mathlib.Omega.{arith}
 use lib.ListN.{length}
 use lib.Dec.{eqb}
 use Rattle.laws.proofs.Counting.{any-find, any-true, count-none, count-same, front, front-distinct, front-in, in-dec, in-front-or-last, last-in, length-front, length-is-count, length-le-count}
-use Rattle.laws.proofs.Deciding.{cases}
+use Rattle.laws.proofs.Deciding.{cases, clash}
 use Rattle.laws.proofs.Testing.{and-both, both-and, eqb-eq, eqb-false, eqb-ne, eqb-true, not-false, not-true}
 use Rattle.laws.specs.Counting.{anyBelow}
 use Rattle.laws.specs.Lists.{Distinct, In, last}
@@ -19,7 +19,8 @@ use Rattle.seating.proofs.Take.{Took, chain-below, took-keeps, took-old
 use Rattle.seating.specs.Chain.{Chain}
 use Rattle.seating.specs.Running.{Running}
 use Rattle.seating.specs.Strong.{Legal}
-use Rattle.seating.specs.Moved.{movedAt, moved}
+use Rattle.laws.specs.Decides.{Decides}
+use Rattle.seating.specs.Moved.{Moved, movedAt, moved}
 
 module _ (n e : ℕ) (s s′ : ℕ → ℕ) where
   pub moved-intro : (c d : ℕ) → s c ≢ e → d < n → d ≢ c → s′ d ≡ s c → movedAt n e s s′ c ≡ true
@@ -34,6 +35,13 @@ module _ (n e : ℕ) (s s′ : ℕ → ℕ) where
       let b = any-find f n (a .1) in
       let k = and-both (not (eqb (b .0) c)) (eqb (s′ (b .0)) (s c)) (b .2) in
       (eqb-ne (not-true (a .0)), (b .0, b .1, eqb-ne (not-true (k .0)), eqb-eq (k .1)))
+
+  -- the test says what document 01's word says
+  pub moved-decides : (c : ℕ) → Decides (Moved n e s s′ c) (movedAt n e s s′ c)
+  moved-decides c = record {
+    yes = λ t. let h = moved-elim c t in record { real = h .0; core = h .1 .0; below = h .1 .1; other = h .1 .2; sits = h .1 .3 };
+    no = λ f m. clash (moved-intro c (m .core) (m .real) (m .below) (m .other) (m .sits)) f;
+  }
 
   -- where s′ has shifted a chain of s, the tasks on it but the last are moved
   pub shifts-moved : (c : ℕ) (p : List ℕ) → Distinct (c ∷ p) → Shifts n e s s′ c p → (b : ℕ) → In b (front c p) → movedAt n e s s′ b ≡ true

@@ -82,10 +82,6 @@ module _ {n : ℕ} {G : ℕ → ℕ → Bool} {T : ℕ → Bool} {N : ℕ → �
   up : (k c : ℕ) → k < j → c < n → N k c ≡ true → N (suc k) c ≡ true
   up k c l m h = L .next k c l m ∙ or-left (ltb (lowest n (G c) (N k)) n) h
 
-  climb : (k c : ℕ) → k ≤ j → c < n → N 0 c ≡ true → N k c ≡ true
-  climb zero c l m h = h
-  climb (suc k) c l m h = up k c (omega arith) m (climb k c (omega arith) m h)
-
   pub from-next : (k c d : ℕ) → k < j → c < n → d < n → G c d ≡ true → N k d ≡ true → N (suc k) c ≡ true
   from-next k c d l m b g h = L .next k c l m ∙ or-right (N k c) (lt-ltb (lowest n (G c) (N k)) n (let u = lowest-le n (G c) (N k) d b g h in omega arith))
 
@@ -93,11 +89,6 @@ module _ {n : ℕ} {G : ℕ → ℕ → Bool} {T : ℕ → Bool} {N : ℕ → �
   path-near : (c : ℕ) (q : List ℕ) → c < n → length q ≤ j → Steps n G c q → T (last c q) ≡ true → N (length q) c ≡ true
   path-near c [] m l w h = L .start c m ∙ h
   path-near c (d ∷ q) m l w h = from-next (length q) c d (omega arith) m (w .0) (w .1) (path-near d q (w .0) (omega arith) (w .2) h)
-
-  -- where a round adds nothing, whatever leads to the target is near
-  stable-near : (k : ℕ) → k < j → ((c : ℕ) → c < n → N (suc k) c ≡ true → N k c ≡ true) → (c : ℕ) (q : List ℕ) → c < n → Steps n G c q → T (last c q) ≡ true → N k c ≡ true
-  stable-near k l f c [] m w t = climb k c (omega arith) m (L .start c m ∙ t)
-  stable-near k l f c (d ∷ q) m w t = f c m (from-next k c d l m (w .0) (w .1) (stable-near k l f d q (w .0) (w .2) t))
 
   pub next-facts : (k c : ℕ) → k < j → c < n → N (suc k) c ≡ true → N k c ≡ false
       → (lowest n (G c) (N k) < n) × (G c (lowest n (G c) (N k)) ≡ true) × (N k (lowest n (G c) (N k)) ≡ true) × Exact N k (lowest n (G c) (N k))
@@ -227,12 +218,6 @@ module _ {n e : ℕ} {may : ℕ → ℕ → Bool} {s : ℕ → ℕ} {G : ℕ →
         none′ d q h t =
             let u : suc (length q) ≤ n = pigeonhole (d ∷ q) n (h .distinct) (chain-below h) in
             M (length q) d (omega arith) (h .start .0) (h .start .1) (chain-near h t (omega arith))
-
-    -- nor where a round adds nothing
-    pub levels-stable : (k : ℕ) → k < j → ((c : ℕ) → c < n → N (suc k) c ≡ true → N k c ≡ true) → Missed n (may x) N j → Unreached n e may s x T
-    levels-stable k l f M = record {
-      none = λ d q h t. M k d l (h .start .0) (h .start .1) (stable-near L k l f d q (h .start .0) (links-steps d q (h .start .0) (h .links)) t);
-    }
 
 -- ---- marks: a number for each core, its distance to the target so far as it is found, and far for any other
 

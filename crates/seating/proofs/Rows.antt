@@ -50,9 +50,6 @@ first-hit p n d l h = go (cases (ltb d (first p 0 n)))
     go (inl t) = clash h (first-is p 0 n .passed d (omega arith) (ltb-true d (first p 0 n) t))
     go (inr t) = ltb-false d (first p 0 n) t
 
-pub first-le : (p : ℕ → Bool) (n : ℕ) → first p 0 n ≤ n
-first-le p n = let f = first-is p 0 n in omega (arith, f .high)
-
 pub first-none : (p : ℕ → Bool) (n d : ℕ) → n ≤ first p 0 n → d < n → p d ≡ false
 first-none p n d h l = first-is p 0 n .passed d (omega arith) (omega arith)
 
@@ -86,30 +83,3 @@ begins p m = ap (first p 0) all
   where
     all : m - 0 ≡ m
     all = omega arith
-
--- ---- over more numbers than the test can hold of
-
-module _ (p : ℕ → Bool) (n w : ℕ) (l : n ≤ w) (only : (d : ℕ) → p d ≡ true → d < n) where
-  pub first-wide : first p 0 w < w → (first p 0 w < n) × (first p 0 w ≡ first p 0 n)
-  first-wide h =
-      let t = first-holds p w h in
-      let b = only (first p 0 w) t in
-      let u = first-hit p n (first p 0 w) b t in
-      let v = first-hit p w (first p 0 n) (omega arith) (first-holds p n (omega arith)) in
-      (b, omega arith)
-
-  pub first-narrow : first p 0 n < n → first p 0 w ≡ first p 0 n
-  first-narrow h =
-      let u = first-hit p w (first p 0 n) (omega arith) (first-holds p n h) in
-      let f = first-wide (omega arith) in
-      f .1
-
-  pub first-wide-none : w ≤ first p 0 w → n ≤ first p 0 n
-  first-wide-none h = go (cases (ltb (first p 0 n) n))
-    where
-      go : (ltb (first p 0 n) n ≡ true) ⊎ (ltb (first p 0 n) n ≡ false) → n ≤ first p 0 n
-      go (inl t) =
-          let b = ltb-true (first p 0 n) n t in
-          let u = first-hit p w (first p 0 n) (omega arith) (first-holds p n b) in
-          absurd (omega arith)
-      go (inr t) = ltb-false (first p 0 n) n t

@@ -42,9 +42,6 @@ legal {d} S = record { ready = λ c l q. S .seats c (core-below S l) q .ready; a
 pub ranked : {d : Dispatcher} → Shaped d → Sound d → Ranked (Ready d) (ComesBefore d) (rankAt d)
 ranked L S = record { lower = λ t u r q. rank-before S L r q; before = λ t u r q. before-rank S L r q; once = λ t u r q. rank-once S L r q }
 
-pub ready-real : {d : Dispatcher} {t : ℕ} → Ready d t → t ≢ none
-ready-real r e = omega (arith, r .slot, e)
-
 -- no task is in the slot that the mark names
 pub no-slot : {d : Dispatcher} → Shaped d → taskAt d none ≡ noTask
 no-slot {d} L = getD-beyond (d .tasks) none noTask (rw (L .tasks) (omega arith))

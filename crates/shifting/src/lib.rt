@@ -133,10 +133,10 @@ fn first_seeking(d: Dispatcher, lead: u32) -> u16
         let t = d.tasks[s];
         let place = places[s];
         if seeks(t.mask, place, cores[s], lead) {
-            let its = order::rank(t.priority, place);
-            if its <= rank {
+            let own = order::rank(t.priority, place);
+            if own <= rank {
                 first = s as u16;
-                rank = its;
+                rank = own;
             }
         }
         s += 1;

@@ -7,7 +7,7 @@ use native.Mathlib.Omega.{arith}
 use lib.ListN.{length-set}
 use lib.Seq.{getD-set-same, getD-set-other}
 use Rattle.masks.proofs.Bits.{legal-mask}
-use Rattle.dispatcher.specs.Limits.{slotLimit, none, greatestPriority}
+use Rattle.dispatcher.specs.Limits.{slotLimit, greatestPriority}
 use Rattle.dispatcher.specs.Slots.{noTask, taskAt, orderAt, seatAt, Used, Ready, Shaped}
 use Rattle.dispatcher.specs.Sound.{LegalTask, Entered, Seated, Sound}
 use Rattle.dispatcher.specs.Answers.{numberOf}
@@ -18,13 +18,7 @@ use Rattle.dispatcher.proofs.Promises.{none-applies, slot-below}
 use Rattle.tasks.specs.Table.{withTask}
 use Rattle.tasks.specs.Create.{Creates}
 use Rattle.tasks.specs.Delete.{Deletes}
-
-ready-real : {d : Dispatcher} {s : ℕ} → (r : Ready d s) → orderAt d (r .place) ≢ none
-ready-real r e = omega (arith, r .slot, r .stands, e)
-
--- a ready slot is used
-ready-used : {d : Dispatcher} {s : ℕ} → Sound d → Ready d s → Used (taskAt d s)
-ready-used {d} S r = subst (λ (v : ℕ). Used (taskAt d v)) (r .stands) (S .order (r .place) (r .within) (ready-real r) .used)
+use Rattle.dispatcher.proofs.Ready.{ready-used}
 
 with-task-shaped : {d : Dispatcher} (slot : ℕ) (t : Task) → Shaped d → Shaped (withTask d slot t)
 with-task-shaped {d} slot t L = record { tasks = length-set (d .tasks) slot t ∙ L .tasks; order = L .order; seats = L .seats }
@@ -66,8 +60,8 @@ module _ {d : Dispatcher} {slot : ℕ} {t : Task} (L : Shaped d) (S : Sound d) (
 
 module _ {d : Dispatcher} {slot priority mask : ℕ} {r : Outcome} (S : Sound d) (C : Creates d slot priority mask r) (z : numberOf (r .report .answer) ≡ 0) where
   -- the slot was empty, so it was not ready
-  create-off : Ready d slot → ⊥
-  create-off q = none-applies (C .answer) z 4 (inr (inr (inl (refl, ready-used S q))))
+  pub created-off : Ready d slot → ⊥
+  created-off q = none-applies (C .answer) z 4 (inr (inr (inl (refl, ready-used S q))))
 
   create-legal : priority ≤ greatestPriority → LegalTask (d .cores) (record { priority = priority; mask = mask })
   create-legal byte = record {
@@ -79,7 +73,7 @@ module _ {d : Dispatcher} {slot priority mask : ℕ} {r : Outcome} (S : Sound d)
       positive n = omega arith
 
   pub created-not-ready : Ready (r .dispatcher) slot → ⊥
-  created-not-ready q = create-off (elsewhere (subst (λ (e : Dispatcher). Ready e slot) (C .done z .written) q))
+  created-not-ready q = created-off (elsewhere (subst (λ (e : Dispatcher). Ready e slot) (C .done z .written) q))
     where
       elsewhere : Ready (withTask d slot (record { priority = priority; mask = mask })) slot → Ready d slot
       elsewhere e = record { slot = e .slot; place = e .place; within = e .within; stands = e .stands }
@@ -91,7 +85,7 @@ create-keeps {d} {r} L S byte C = go (ℕ-discrete (numberOf (r .report .answer)
     go : Dec (numberOf (r .report .answer) ≡ 0) → Shaped (r .dispatcher) × Sound (r .dispatcher)
     go (yes z) =
         let below = slot-below (C .answer) z in
-        rw (C .done z .written) (with-task-shaped _ _ L, with-task-sound L S below (create-off S C z) (λ _. create-legal S C z byte))
+        rw (C .done z .written) (with-task-shaped _ _ L, with-task-sound L S below (created-off S C z) (λ _. create-legal S C z byte))
     go (no z) = rw (C .kept z) (L, S)
 
 -- ---- delete

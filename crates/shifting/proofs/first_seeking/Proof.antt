@@ -119,10 +119,10 @@ loop-again c =
       omega arith,
       ⊎-elim
           (λ w. let told = rank-is a (l .s) small (passes (w .0 .taken)) (w .1 .ensures) in
-          rw (w .3, w .4 ∙ told) (earlier (omega arith) (passes (w .0 .taken)) (l .inv .1) (rw told at (w .2 .taken))))
+          rw (w .3, w .4 ∙ told) (earlier (omega arith) (passes (w .0 .taken)) (l .inv .1) (omega (arith, w .2 .taken, told))))
           (⊎-elim
           (λ w. let told = rank-is a (l .s) small (passes (w .0 .taken)) (w .1 .ensures) in
-          rw (w .3, w .4) (not-earlier (omega arith) (passes (w .0 .taken)) (l .inv .1) (rank-small (shaped a) (ready a (l .s) small (passes (w .0 .taken)))) (rw told at (w .2 .left))))
+          rw (w .3, w .4) (not-earlier (omega arith) (passes (w .0 .taken)) (l .inv .1) (rank-small (shaped a) (ready a (l .s) small (passes (w .0 .taken)))) (omega (arith, w .2 .left, told))))
           (λ w. rw (w .1, w .2) (picking-skip (sym (c .before .seeks .ensures) ∙ w .0 .left) (l .inv .1))))
           (c .if1 .came),
     )

@@ -99,10 +99,10 @@ loop-again c =
       omega arith,
       ⊎-elim
           (λ w. let told = rank-is (c .before) (w .0 .taken) (w .4 .ensures) in
-          rw (w .6, w .7 ∙ told) (later (i .loop-test .taken) (in-mask (c .before) (w .0 .taken)) (l .inv .1) (rw told at (w .5 .taken))))
+          rw (w .6, w .7 ∙ told) (later (i .loop-test .taken) (in-mask (c .before) (w .0 .taken)) (l .inv .1) (omega (arith, w .5 .taken, told))))
           (⊎-elim
           (λ w. let told = rank-is (c .before) (w .0 .taken) (w .4 .ensures) in
-          rw (w .6, w .7) (not-later (i .loop-test .taken) (in-mask (c .before) (w .0 .taken)) (l .inv .1) (rw told at (w .5 .left))))
+          rw (w .6, w .7) (not-later (i .loop-test .taken) (in-mask (c .before) (w .0 .taken)) (l .inv .1) (omega (arith, w .5 .left, told))))
           (λ w. rw (w .1, w .2) (picking-skip (sym (c .before .has .ensures) ∙ w .0 .left) (l .inv .1))))
           (c .if1 .came),
     )
