@@ -3,7 +3,7 @@ use Prim.Native.Nat.{ℕ, _<_}
 use mathlib.Core.Path.{_≡_, sym, _∙_}
 use mathlib.Core.Logic.{_≢_}
 use mathlib.Core.List.{List}
-use native.Mathlib.Decide.{ℕ-discrete, decLt}
+use native.Mathlib.Decide.{ℕ-discrete}
 use native.Mathlib.Omega.{arith}
 use lib.ListN.{getD, set, length-set}
 use lib.Seq.{getD-set-same, getD-set-other}
@@ -14,7 +14,7 @@ use Rattle.dispatcher.specs.Sound.{Sound}
 use Rattle.dispatcher.specs.declared.Dispatcher.{Dispatcher}
 use Rattle.order.proofs.Leaving.{left-shaped, left-sound}
 use Rattle.shifting.specs.Board.{mayRun, withSeats}
-use Rattle.shifting.proofs.Board.{core-below, legal}
+use Rattle.shifting.proofs.Board.{core-below, seat-below, legal}
 use Rattle.readiness.specs.Block.{freedOf}
 use Rattle.readiness.proofs.Reseating.{reseated-sound}
 
@@ -46,12 +46,14 @@ module _ {d : Dispatcher} {slot z : ℕ} (L : Shaped d) (S : Sound d) (real : sl
 
   -- the slot sits nowhere else
   gone : (c : ℕ) → c < coreLimit → seatAt (withSeats d rest) c ≢ slot
-  gone c l e = go (ℕ-discrete c z) (decLt c (d .cores))
+  gone c l e = go (ℕ-discrete c z)
     where
-      go : Dec (c ≡ z) → Dec (c < d .cores) → ⊥
-      go (yes q) k = real (sym e ∙ rw q freed-idle)
-      go (no q) (yes k) = let o = sym (seat-other c q) ∙ e in q (legal S .once c z k below (λ n. real (sym o ∙ n)) (o ∙ sym sits))
-      go (no q) (no k) = real (sym e ∙ idle-sound .missing c l (omega arith))
+      go : Dec (c ≡ z) → ⊥
+      go (yes q) = real (sym e ∙ rw q freed-idle)
+      go (no q) =
+          let o : seatAt d c ≡ slot = sym (seat-other c q) ∙ e in
+          let held : seatAt d c ≢ none = λ n. real (sym o ∙ n) in
+          q (legal S .once c z (seat-below S l held) below held (o ∙ sym sits))
 
   idle-shaped : Shaped (withSeats d rest)
   idle-shaped = record { tasks = L .tasks; order = L .order; seats = length-set (d .seats) z none ∙ L .seats }

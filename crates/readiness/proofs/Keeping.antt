@@ -3,7 +3,7 @@ use Prim.Native.Nat.{ℕ, _<_}
 use mathlib.Core.Path.{_≡_, refl, sym, _∙_}
 use mathlib.Core.Logic.{_≢_, _⊎_, inl, inr, _↔_}
 use mathlib.Core.List.{List}
-use native.Mathlib.Decide.{ℕ-discrete, decLt}
+use native.Mathlib.Decide.{ℕ-discrete}
 use native.Mathlib.Omega.{arith}
 use lib.ListN.{set}
 use lib.Seq.{getD-set-other}
@@ -27,7 +27,7 @@ use Rattle.order.proofs.Leaving.{left-shaped, left-only, left-old, left-before,
 use Rattle.shifting.specs.Board.{Runs, Waits, withSeats}
 use Rattle.shifting.specs.Picking.{rankAt}
 use Rattle.shifting.specs.Rule.{KeepsIn, LeastIn}
-use Rattle.shifting.proofs.Board.{legal, ranked}
+use Rattle.shifting.proofs.Board.{seat-below, legal, ranked}
 use Rattle.readiness.specs.Wake.{Woken, Wakes}
 use Rattle.readiness.specs.Block.{freedOf, Refills, Blocks}
 use Rattle.readiness.proofs.Freeing.{freed-idle, freed-sound}
@@ -136,11 +136,7 @@ module _ {d : Dispatcher} (slot : ℕ) (L : Shaped d) (S : Sound d) (l : List �
 
 module _ {d : Dispatcher} {slot : ℕ} (L : Shaped d) (S : Sound d) (W : Waits d slot) where
   unseated : (c : ℕ) → c < coreLimit → seatAt d c ≢ slot
-  unseated c l e = go (decLt c (d .cores))
-    where
-      go : Dec (c < d .cores) → ⊥
-      go (yes b) = W .off (record { real = ready-real (W .ready); core = c; below = b; sits = e })
-      go (no b) = ready-real (W .ready) (sym e ∙ S .missing c l (omega arith))
+  unseated c l e = W .off (record { real = ready-real (W .ready); core = c; below = seat-below S l (λ z. ready-real (W .ready) (sym e ∙ z)); sits = e })
 
   waited-keeps : Shaped (leftOf d slot) × Sound (leftOf d slot)
   waited-keeps = (left-shaped slot L, left-sound slot L S unseated)

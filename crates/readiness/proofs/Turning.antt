@@ -3,7 +3,6 @@ use Prim.Native.Nat.{ℕ, _<_}
 use mathlib.Core.Path.{_≡_, refl, sym, _∙_, subst}
 use mathlib.Core.Logic.{_≢_, inl, inr}
 use mathlib.Core.List.{List}
-use native.Mathlib.Decide.{decLt}
 use native.Mathlib.Omega.{arith}
 use lib.ListN.{set}
 use Rattle.dispatcher.specs.Limits.{coreLimit, none}
@@ -18,12 +17,13 @@ use Rattle.dispatcher.proofs.Promises.{none-applies, slot-below}
 use Rattle.dispatcher.proofs.Stable.{not-unsound, not-unready}
 use Rattle.order.specs.Changes.{joinOrder, leaveOrder}
 use Rattle.order.proofs.Joining.{joined-new, joined-sound}
-use Rattle.shifting.specs.Board.{Runs, withSeats}
+use Rattle.shifting.specs.Board.{withSeats}
 use Rattle.shifting.specs.Arriving.{Arriving}
 use Rattle.shifting.specs.Filling.{Freed}
 use Rattle.shifting.specs.Shifts.{Arrived, Refilled}
 use Rattle.shifting.specs.declared.Shift.{Shift}
-use Rattle.shifting.proofs.Board.{core-below, legal}
+use Rattle.seating.proofs.Same.{runs-ready}
+use Rattle.shifting.proofs.Board.{core-below, seat-below, legal}
 use Rattle.readiness.specs.Wake.{Woken, wakeRefusals}
 use Rattle.readiness.specs.Block.{freedOf, Refills, Blocked, blockRefusals}
 use Rattle.readiness.specs.Seats.{CoreOf, Shifted}
@@ -33,9 +33,6 @@ use Rattle.dispatcher.proofs.Ready.{ready-real}
 -- d with another wake order
 abbrev pub withOrder : Dispatcher → List ℕ → Dispatcher
 withOrder d l = record { cores = d .cores; tasks = d .tasks; order = l; seats = d .seats }
-
-seat-ready : {d : Dispatcher} {slot : ℕ} → Sound d → Runs d slot → Ready d slot
-seat-ready {d} S r = subst (Ready d) (r .sits) (S .seats (r .core) (core-below S (r .below)) (λ e. r .real (sym (r .sits) ∙ e)) .ready)
 
 -- ---- wake
 
@@ -52,7 +49,7 @@ module _ {d : Dispatcher} {slot : ℕ} (h : Answers (wakeRefusals d slot) 0) whe
   pub joined-arriving : {order : List ℕ} → Shaped d → order ≡ joinOrder (d .order) slot → Arriving (withOrder d order) slot
   joined-arriving L q = rw q (record {
     sound = joined-sound L woken-sound (slot-below h refl) off used;
-    waits = record { ready = joined-new L woken-sound (slot-below h refl) off; off = λ r. off (seat-ready woken-sound (record { real = r .real; core = r .core; below = r .below; sits = r .sits })) };
+    waits = record { ready = joined-new L woken-sound (slot-below h refl) off; off = λ r. off (runs-ready (legal woken-sound) r) };
   })
 
 pub arrived-woken : {d : Dispatcher} {slot : ℕ} {order : List ℕ} {s : Shift} {r : Outcome} → Shaped d → order ≡ joinOrder (d .order) slot → Arrived (withOrder d order) slot s → Shifted (withOrder d order) s r
@@ -75,13 +72,8 @@ module _ {d : Dispatcher} {slot : ℕ} (h : Answers (blockRefusals d slot) 0) wh
   pub blocked-ready : Ready d slot
   blocked-ready = not-unready d slot (λ n. none-applies h refl 10 (inr (inr (inr (inl (refl, n))))))
 
-  -- a slot that sits on one of all cores sits on one below the count
   sits-below : {c : ℕ} → c < coreLimit → seatAt d c ≡ slot → c < d .cores
-  sits-below {c} l q = go (decLt c (d .cores))
-    where
-      go : Dec (c < d .cores) → c < d .cores
-      go (yes k) = k
-      go (no k) = absurd (ready-real blocked-ready (sym q ∙ blocked-sound .missing c l (omega arith)))
+  sits-below l q = seat-below blocked-sound l (λ z. ready-real blocked-ready (sym q ∙ z))
 
   pub core-idle : {order seats : List ℕ} {core : ℕ} → Shaped d → order ≡ leaveOrder (d .order) slot → seats ≡ set (d .seats) core none → core ≢ coreLimit → CoreOf (d .seats) slot core → Freed (withSeats (withOrder d order) seats) core
   core-idle L q p n (inr s) = absurd (n (s .is))

@@ -31,6 +31,14 @@ use Rattle.shifting.specs.Picking.{rankAt}
 pub core-below : {d : Dispatcher} → Sound d → {c : ℕ} → c < d .cores → c < coreLimit
 core-below S l = omega (arith, S .count .1)
 
+-- the cores at or above the count hold the mark
+pub seat-below : {d : Dispatcher} → Sound d → {c : ℕ} → c < coreLimit → seatAt d c ≢ none → c < d .cores
+seat-below {d} S {c} l q = go (decLt c (d .cores))
+  where
+    go : Dec (c < d .cores) → c < d .cores
+    go (yes k) = k
+    go (no k) = absurd (q (S .missing c l (omega arith)))
+
 pub legal : {d : Dispatcher} → Sound d → Legal (d .cores) none (mayRun d) (Ready d) (seatAt d)
 legal {d} S = record { ready = λ c l q. S .seats c (core-below S l) q .ready; allowed = λ c l q. S .seats c (core-below S l) q .allowed; once = λ c b l m q e. go c b l m q e (decLt c b) (decLt b c) }
   where

@@ -1,10 +1,9 @@
 -- Whether a slot waits and its mask meets some cores, by the tables of first places of the wake order and of the seats.
 use Prim.Native.Nat.{ℕ, _≤_, _<_}
-use mathlib.Core.Path.{_≡_, sym, _∙_}
+use mathlib.Core.Path.{_≡_}
 use mathlib.Core.Logic.{_≢_, inl, inr}
 use mathlib.Core.Bool.{not}
 use mathlib.Core.List.{List}
-use native.Mathlib.Decide.{decLt}
 use native.Mathlib.Omega.{arith}
 use lib.Bits.{bitAnd}
 use lib.Dec.{eqb}
@@ -18,6 +17,7 @@ use Rattle.dispatcher.specs.declared.Dispatcher.{Dispatcher}
 use Rattle.order.specs.Places.{FirstAt, FirstPlace, FirstPlaces}
 use Rattle.order.proofs.Waking.{woke-stands}
 use Rattle.order.proofs.Placing.{first-stands, stands-first}
+use Rattle.shifting.proofs.Board.{seat-below}
 use Rattle.shifting.specs.Board.{Runs, Waits}
 use Rattle.shifting.specs.Picking.{rankAt, seekTest}
 
@@ -34,13 +34,8 @@ module _ {d : Dispatcher} {places cores : List ℕ} (L : Shaped d) (S : Sound d)
       (λ r. stands-first (omega arith) stands (r .within) (r .stands))
       (decides-not (decides-eq (getD places w 0) none))
 
-  -- a slot that sits on one of all cores sits on one below the count, since the others hold the mark
   runs : FirstAt (seatAt d) 0 coreLimit w (getD cores w 0) → Runs d w
-  runs f = record { real = λ e. omega arith; core = getD cores w 0; below = go (decLt (getD cores w 0) (d .cores)); sits = f .holds }
-    where
-      go : Dec (getD cores w 0 < d .cores) → getD cores w 0 < d .cores
-      go (yes l) = l
-      go (no l) = let z = sym (f .holds) ∙ S .missing (getD cores w 0) (f .below) (omega arith) in absurd (omega arith)
+  runs f = record { real = λ e. omega arith; core = getD cores w 0; below = seat-below S (f .below) (λ z. omega (arith, f .holds, z)); sits = f .holds }
 
   off-decides : Decides (Runs d w → ⊥) (eqb (getD cores w 0) none)
   off-decides = decides-by (λ q r. stands-first (omega arith) sits (omega (arith, r .below, S .count .1)) (r .sits) q) (λ off. go sits off) (decides-eq (getD cores w 0) none)
