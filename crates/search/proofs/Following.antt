@@ -1,19 +1,28 @@
 -- The chain that the search takes by what is near: the array that it is written to, and that it is the chosen one.
 use Prim.Native.Nat.{ℕ, suc, _+_, _-_, _≤_, _<_}
 use mathlib.Core.Path.{_≡_, refl, sym, ap, _∙_}
-use mathlib.Core.Logic.{inl, inr}
+use mathlib.Core.Logic.{inl, inr, _≢_}
 use mathlib.Core.Bool.{Bool, true}
 use mathlib.Core.List.{List, [], _∷_, _++_, append-nil, append-assoc}
 use native.Mathlib.Omega.{arith}
+use lib.Bits.{bitAnd}
+use lib.Dec.{leb}
 use lib.ListN.{length, getD, set, replicate, length-append}
+use borrow.Author.Tests.{leb-true, le-leb}
 use Rattle.laws.proofs.Deciding.{clash}
 use Rattle.masks.specs.Masks.{width, has}
 use Rattle.masks.proofs.Bits.{has-zero}
-use Rattle.seating.proofs.Near.{lowest, Levels, Missed, lowest-in, missed-exact, walk, next-facts, Graph, levels-chosen, levels-none}
+use Rattle.masks.proofs.Operators.{and-none}
+use Rattle.seating.specs.Chosen.{Unreached}
+use Rattle.seating.proofs.Near.{lowest, Levels, lowest-in, missed-exact, walk, next-facts, Graph, levels-chosen, levels-none, exact-below}
 use Rattle.search.specs.Sitters.{maskOn, leads}
 use Rattle.search.specs.Route.{spelt, routeOf, noRoute, Searched}
+use Rattle.search.specs.Marks.{farthest, mark, within}
+use Rattle.search.specs.Distances.{Complete, Distances}
 use Rattle.search.specs.Ready.{Ready}
+use Rattle.search.specs.declared.Marks.{Marks}
 use Rattle.search.specs.declared.Route.{Route}
+use Rattle.search.proofs.Gathering.{meets-some}
 
 -- ---- the array
 
@@ -92,38 +101,40 @@ pub graph : (n : ℕ) (masks : List ℕ) → Graph n 0 has (maskOn masks) (leads
 unfolding maskOn
 graph n masks = record { held = λ c d l m h z. clash h (ap (λ (t : ℕ). has t d) z ∙ has-zero d); used = λ c d l m h. h; back = λ c d l m h t. t }
 
--- N is right for at most k steps, and by fewer no core of the start is near
-pub record Tried (n : ℕ) (masks : List ℕ) (start target : ℕ) (N : ℕ → ℕ → Bool) (k : ℕ) : Type 0 where
-  pub few : n ≤ width
-  pub levels : Levels n (leads masks) (has target) N k
-  pub missed : Missed n (has start) N k
+-- where no core of the start has a mark
+pub unmarked : {n : ℕ} {masks : List ℕ} {start target : ℕ} {marks : List ℕ} {near : ℕ} → n ≤ width → Complete n masks target marks near → ((c : ℕ) → has start c ≡ true → has near c ≡ true → ⊥)
+    → Unreached n 0 has (maskOn masks) start (has target)
+unmarked {n} {masks} {marks = marks} {near = near} few C none = levels-none (graph n masks) (C .levels) (omega arith) (λ i c m l s h. none c s (marked i c m l h))
+  where
+    marked : (i c : ℕ) → i < farthest → c < n → leb (mark marks c) i ≡ true → has near c ≡ true
+    marked i c m l h = let u = leb-true (mark marks c) i h in C .gathered .each c l ∙ le-leb (mark marks c) farthest (omega arith)
 
-pub tried-less : {n : ℕ} {masks : List ℕ} {start target : ℕ} {N : ℕ → ℕ → Bool} {j : ℕ} → n ≤ width → Levels n (leads masks) (has target) N j → (k : ℕ) → k ≤ j → Missed n (has start) N k
-    → Tried n masks start target N k
-tried-less few L k l M = record { few = few; levels = less-by L k l; missed = M }
+module _ {n : ℕ} {masks : List ℕ} {start target : ℕ} {m : Marks} (few : n ≤ width) (D : Distances n masks start target m) where
+  pub answer-none : {r : Route} → bitAnd start (m .near) ≡ 0 → r ≡ noRoute → Searched n masks start target r
+  answer-none z told = inr (record { unreached = unmarked few (D .complete z) (λ c. and-none start (m .near) c z); told = told })
 
-module _ {n : ℕ} {masks : List ℕ} {start target : ℕ} {N : ℕ → ℕ → Bool} {k : ℕ} (A : Tried n masks start target N k) where
-  pub answer-none : {r : Route} → n ≤ k → r ≡ noRoute → Searched n masks start target r
-  answer-none l told = inr (record { unreached = levels-none (graph n masks) (A .levels) l (A .missed); told = told })
+  module _ {c : ℕ} (h : bitAnd start (m .near) ≢ 0) (e : c ≡ lowest n (has start) (within (m .marks) (m .limit))) where
+    begins : lowest n (has start) (within (m .marks) (m .limit)) < n
+    begins = meets-some (D .gathered) start h
 
-  module _ {c : ℕ} (e : c ≡ lowest n (has start) (N k)) (l : c < n) where
-    pub answer-ready : k < n → Ready n masks N c k
-    answer-ready b =
-        let f = lowest-in n (has start) (N k) (rw e at l) in
+    pub answer-ready : Ready n masks (within (m .marks)) c (m .limit)
+    answer-ready =
+        let f = lowest-in n (has start) (within (m .marks) (m .limit)) begins in
+        let x = missed-exact n (has start) (within (m .marks)) (m .limit) (D .missed) (lowest n (has start) (within (m .marks) (m .limit))) begins (f .0) in
         rw e (record {
           T = has target;
-          levels = A .levels;
-          below = rw e at l;
+          levels = D .levels;
+          below = begins;
           near = f .1;
-          exact = missed-exact n (has start) N k (A .missed) (lowest n (has start) (N k)) (rw e at l) (f .0);
-          few = A .few;
-          short = b;
+          exact = x;
+          few = few;
+          short = exact-below (D .levels) (m .limit) (lowest n (has start) (within (m .marks) (m .limit))) (omega arith) begins (f .1) x;
         })
 
-    pub answer-found : {r : Route} → r ≡ routeOf c (walk n (leads masks) N k c) → Searched n masks start target r
+    pub answer-found : {r : Route} → r ≡ routeOf c (walk n (leads masks) (within (m .marks)) (m .limit) c) → Searched n masks start target r
     answer-found told = inl (record {
       c = c;
-      p = walk n (leads masks) N k c;
-      chosen = rw e (levels-chosen (graph n masks) (A .levels) (A .missed) (rw e at l));
+      p = walk n (leads masks) (within (m .marks)) (m .limit) c;
+      chosen = rw e (levels-chosen (graph n masks) (D .levels) (D .missed) begins);
       told = told;
     })

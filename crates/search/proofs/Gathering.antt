@@ -4,11 +4,11 @@ use mathlib.Core.Path.{_≡_, refl, sym, ap, _∙_}
 use mathlib.Core.Logic.{_⊎_, inl, inr, _≢_}
 use mathlib.Core.Bool.{Bool, true, false, not, _&&_, _||_}
 use mathlib.Core.List.{List}
-use native.Mathlib.Decide.{ℕ-discrete}
+use native.Mathlib.Decide.{ℕ-discrete, decLt}
 use native.Mathlib.Omega.{arith}
 use lib.Bits.{bitAnd}
 use lib.Dec.{eqb, ltb}
-use borrow.Author.Tests.{le-leb, lt-leb, ltb-true, lt-ltb, eq-eqb, ne-eqb}
+use borrow.Author.Tests.{le-leb, lt-leb, lt-ltb, le-ltb, eq-eqb, ne-eqb}
 use Rattle.laws.proofs.Deciding.{cases, clash}
 use Rattle.laws.proofs.Testing.{both-and, or-right, eqb-true, eqb-false}
 use Rattle.masks.specs.Masks.{width, has, Added}
@@ -59,20 +59,26 @@ gathered-all {i} {n} l m G = let q : i ≡ n = omega arith in rw q at G
 -- ---- a mask met with it
 
 -- some core below n is in both where what they have in common is not empty
-pub meets : (n mask near : ℕ) (S : ℕ → Bool) → ((c : ℕ) → has near c ≡ true → c < n) → ((c : ℕ) → c < n → has near c ≡ S c) → ltb (lowest n (has mask) S) n ≡ not (eqb (bitAnd mask near) 0)
-meets n mask near S below same = go (ℕ-discrete (bitAnd mask near) 0)
-  where
-    go : Dec (bitAnd mask near ≡ 0) → ltb (lowest n (has mask) S) n ≡ not (eqb (bitAnd mask near) 0)
-    go (yes z) = rw (eq-eqb (bitAnd mask near) 0 z) (none (cases (ltb (lowest n (has mask) S) n)))
-      where
-        none : (ltb (lowest n (has mask) S) n ≡ true) ⊎ (ltb (lowest n (has mask) S) n ≡ false) → ltb (lowest n (has mask) S) n ≡ false
-        none (inl t) =
-            let l = ltb-true (lowest n (has mask) S) n t in
-            let f = lowest-in n (has mask) S l in
-            absurd (and-none mask near (lowest n (has mask) S) z (f .0) (same (lowest n (has mask) S) l ∙ f .1))
-        none (inr f) = f
-    go (no z) =
-        let (c, a, b) = and-some mask near z in
-        let l = below c b in
-        let m = lowest-le n (has mask) S c l a (sym (same c l) ∙ b) in
-        rw (ne-eqb (bitAnd mask near) 0 z) (lt-ltb (lowest n (has mask) S) n (omega arith))
+module _ {marks : List ℕ} {k n near : ℕ} (G : Gathered marks k n near) (mask : ℕ) where
+  pub meets-some : bitAnd mask near ≢ 0 → lowest n (has mask) (within marks k) < n
+  meets-some z =
+      let (c, a, b) = and-some mask near z in
+      let l = G .below c b in
+      let m = lowest-le n (has mask) (within marks k) c l a (sym (G .each c l) ∙ b) in
+      omega arith
+
+  pub meets-none : bitAnd mask near ≡ 0 → n ≤ lowest n (has mask) (within marks k)
+  meets-none z = go (decLt (lowest n (has mask) (within marks k)) n)
+    where
+      go : Dec (lowest n (has mask) (within marks k) < n) → n ≤ lowest n (has mask) (within marks k)
+      go (yes l) =
+          let f = lowest-in n (has mask) (within marks k) l in
+          absurd (and-none mask near (lowest n (has mask) (within marks k)) z (f .0) (G .each (lowest n (has mask) (within marks k)) l ∙ f .1))
+      go (no l) = omega arith
+
+  pub meets : ltb (lowest n (has mask) (within marks k)) n ≡ not (eqb (bitAnd mask near) 0)
+  meets = go (ℕ-discrete (bitAnd mask near) 0)
+    where
+      go : Dec (bitAnd mask near ≡ 0) → ltb (lowest n (has mask) (within marks k)) n ≡ not (eqb (bitAnd mask near) 0)
+      go (yes z) = rw (eq-eqb (bitAnd mask near) 0 z) (le-ltb (lowest n (has mask) (within marks k)) n (meets-none z))
+      go (no z) = rw (ne-eqb (bitAnd mask near) 0 z) (lt-ltb (lowest n (has mask) (within marks k)) n (meets-some z))

@@ -2,7 +2,6 @@ mod Arrays
 mod Gathering
 mod Following
 mod Marking
-mod Ways
 mod Sweeping
 mod Taking
 pub mod Same

@@ -5,5 +5,6 @@ pub mod Leading
 pub mod Taken
 pub mod Marks
 pub mod Rounds
+pub mod Distances
 pub mod Ready
 pub mod Spread

@@ -20,9 +20,8 @@ firstMark target c = cond (has target c) 0 far
 abbrev pub nextMark : ℕ → ℕ → ℕ → ℕ → ℕ
 nextMark mark mask near k = cond (leb mark k) mark (cond (not (eqb (bitAnd mask near) 0)) (k + 1) mark)
 
--- the first i of m places are as f says, and the others as they were in ys
-pub record Filled (f : ℕ → ℕ) (i m : ℕ) (ys xs : List ℕ) : Type 0 where
+-- the first i of m places are as f says
+pub record Filled (f : ℕ → ℕ) (i m : ℕ) (xs : List ℕ) : Type 0 where
   pub in-range : i ≤ m
   pub size : m ≤ length xs
   pub done : (k : ℕ) → k < i → getD xs k 0 ≡ f k
-  pub rest : (k : ℕ) → i ≤ k → getD xs k 0 ≡ getD ys k 0

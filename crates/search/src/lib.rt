@@ -4,7 +4,7 @@ ghost use mathlib.Core.Path.{_≡_};
 ghost use mathlib.Core.Bool.{_&&_};
 ghost use Prim.Native.Nat.{_<_, _≤_, _%_, _^_};
 ghost use lib.Dec.{leb};
-ghost use lib.ListN.{getD, take, replicate};
+ghost use lib.ListN.{getD, take};
 ghost use Rattle.masks.specs.Masks.{width, has};
 ghost use Rattle.seating.proofs.Near.{lowest, walk};
 ghost use Rattle.search.specs.Sitters.{leads};
@@ -12,22 +12,27 @@ ghost use Rattle.search.specs.Route.{routeOf, noRoute, Searched};
 ghost use Rattle.search.specs.ReachedCores.{ReachedCores};
 ghost use Rattle.search.specs.Leading.{Leading};
 ghost use Rattle.search.specs.Taken.{takeList, Cores};
-ghost use Rattle.search.specs.Marks.{far, mark, within, Distances};
+ghost use Rattle.search.specs.Marks.{far, mark, within};
 ghost use Rattle.search.specs.Rounds.{Gathered, firstMark, nextMark, Filled};
+ghost use Rattle.search.specs.Distances.{Distances};
 ghost use Rattle.search.specs.Ready.{Ready};
 ghost use Rattle.search.specs.Spread.{Spread};
 
-// The mark of a core that does not lead to the target.
+// The mark of a core from which no way to the target is found yet.
 const FAR: u8 = 255;
-
-// The largest mark that is a number of steps.
-const FARTHEST: u8 = 254;
 
 // A chain of cores, in the first `length` places; or none was found.
 pub struct Route {
     pub found: bool,
     pub cores: [u8; masks::WIDTH],
     pub length: usize,
+}
+
+// The marks after `limit` rounds, and the cores that have one.
+struct Marks {
+    marks: [u8; masks::WIDTH],
+    near: u32,
+    limit: u8,
 }
 
 fn passes(mask: u32, core: usize, mark: u8, limit: u8) -> bool
@@ -80,7 +85,7 @@ fn first_mark(target: u32, core: usize) -> u8
 // The marks before the first round.
 fn begin(target: u32, n: usize) -> [u8; masks::WIDTH]
     requires { ⌜ n ≤ width ⌝ }
-    ensures { λ r. ⌜ Filled (firstMark target) n n (replicate width far) r ⌝ }
+    ensures { λ r. ⌜ Filled (firstMark target) n n r ⌝ }
 {
     let mut marks = [FAR; masks::WIDTH];
     let mut c: usize = 0;
@@ -113,7 +118,7 @@ fn round(
     n: usize,
 ) -> [u8; masks::WIDTH]
     requires { ⌜ (n ≤ width) × (limit < far) ⌝ }
-    ensures { λ r. ⌜ Filled (λ c. nextMark (mark marks c) (getD (now (masks .entry)) c 0) near limit) n n marks r ⌝ }
+    ensures { λ r. ⌜ Filled (λ c. nextMark (mark marks c) (getD (now (masks .entry)) c 0) near limit) n n r ⌝ }
 {
     let mut next = marks;
     let mut c: usize = 0;
@@ -126,24 +131,27 @@ fn round(
     next
 }
 
-// How many steps lead from each core to a core of `target`. The rounds end when one adds no core.
-fn distances(masks: &[u32; masks::WIDTH], target: u32, n: usize) -> [u8; masks::WIDTH]
+// How many steps lead from each core to a core of `target`. The rounds end when a core of `start` has a mark, or when one adds no core.
+fn distances(masks: &[u32; masks::WIDTH], start: u32, target: u32, n: usize) -> Marks
     requires { ⌜ n ≤ width ⌝ }
-    ensures { λ r. ⌜ Distances n (now (masks .entry)) target r ⌝ }
+    ensures { λ r. ⌜ Distances n (now (masks .entry)) start target r ⌝ }
 {
     let mut marks = begin(target, n);
     let mut near = gathered(&marks, 0, n);
     let mut limit: u8 = 0;
     while (limit as usize) < n {
+        if start & near != 0 {
+            return Marks { marks, near, limit };
+        }
         marks = round(masks, marks, near, limit, n);
         limit += 1;
         let next = gathered(&marks, limit, n);
         if next == near {
-            return marks;
+            return Marks { marks, near, limit };
         }
         near = next;
     }
-    marks
+    Marks { marks, near, limit }
 }
 
 // The chain from core `from`, whose mark is `limit`, to the target: always to the smallest core with a lower mark.
@@ -187,47 +195,27 @@ fn nowhere() -> Route
     }
 }
 
-// The search's answer by the marks: it begins with the smallest core of `start` whose mark is least.
-fn way(
-    masks: &[u32; masks::WIDTH],
-    marks: &[u8; masks::WIDTH],
-    target: u32,
-    start: u32,
-    n: usize,
-) -> Route
-    requires { ⌜ (n ≤ width) × Distances n (now masks) target (now marks) ⌝ }
-    ensures { λ r. ⌜ Searched n (now (masks .entry)) start target r ⌝ }
-{
-    if lowest_within(marks, start, FARTHEST, n) == n {
-        return nowhere();
-    }
-    let mut limit: u8 = 0;
-    while (limit as usize) < n {
-        let c = lowest_within(marks, start, limit, n);
-        if c < n {
-            return follow(masks, marks, c, limit, n);
-        }
-        limit += 1;
-    }
-    nowhere()
-}
-
 // The shortest chain from a task with the mask `start` to a core of `target`, and of the shortest the one with the smaller core where they first differ.
 pub fn search(masks: &[u32; masks::WIDTH], start: u32, target: u32, n: usize) -> Route
     requires { ⌜ n ≤ width ⌝ }
     ensures { λ r. ⌜ Searched n (now (masks .entry)) start target r ⌝ }
 {
-    let marks = distances(masks, target, n);
-    way(masks, &marks, target, start, n)
+    let m = distances(masks, start, target, n);
+    if start & m.near == 0 {
+        return nowhere();
+    }
+    let marks = m.marks;
+    let from = lowest_within(&marks, start, m.limit, n);
+    follow(masks, &marks, from, m.limit, n)
 }
 
-// The cores from which a core of `target` is reached.
+// The cores from which a core of `target` is reached. With no core to start from the rounds go on until one adds no core.
 pub fn leading(masks: &[u32; masks::WIDTH], target: u32, n: usize) -> u32
     requires { ⌜ n ≤ width ⌝ }
     ensures { λ r. ⌜ Leading n (now (masks .entry)) target r ⌝ }
 {
-    let marks = distances(masks, target, n);
-    gathered(&marks, FARTHEST, n)
+    let m = distances(masks, 0, target, n);
+    m.near
 }
 
 // The mask without the cores from n on.

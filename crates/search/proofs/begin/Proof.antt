@@ -10,7 +10,7 @@ use Rattle.search.proofs.begin.Statement.{statement}
 use Rattle.search.proofs.begin.Tie as tie
 
 abbrev Inv-loop : tie.InvT-loop
-Inv-loop target n marks₀ c₀ marks c = Filled (firstMark target) c n (replicate width far) marks
+Inv-loop target n marks₀ c₀ marks c = Filled (firstMark target) c n marks
 
 abbrev μ-loop : tie.MeasureT-loop
 μ-loop target n marks₀ c₀ marks c = n - c

@@ -9,7 +9,7 @@ use Rattle.search.proofs.round.Statement.{statement}
 use Rattle.search.proofs.round.Tie as tie
 
 abbrev Inv-loop : tie.InvT-loop
-Inv-loop masks near limit n marks next₀ c₀ next c = Filled (λ k. nextMark (mark marks k) (getD masks k 0) near limit) c n marks next
+Inv-loop masks near limit n marks next₀ c₀ next c = Filled (λ k. nextMark (mark marks k) (getD masks k 0) near limit) c n next
 
 abbrev μ-loop : tie.MeasureT-loop
 μ-loop masks near limit n marks next₀ c₀ next c = n - c
