@@ -9,7 +9,7 @@ use lib.ListN.{set}
 use lib.Seq.{getD-set-other}
 use Rattle.seating.proofs.Same.{runs-dec, runs-ready}
 use Rattle.seating.proofs.Keep.{Joins}
-use Rattle.seating.proofs.Ranks.{Ranked}
+use Rattle.seating.proofs.Ranks.{Ranked, reached-below}
 use Rattle.seating.proofs.Rules.{arrives-keeps, leaves-keeps, fills-keeps, keeps-agree}
 use Rattle.seating.proofs.Legality.{arrives-legal, arrives-beyond, fills-legal, fills-beyond}
 use Rattle.dispatcher.specs.Limits.{coreLimit, slotLimit, none}
@@ -20,9 +20,9 @@ use Rattle.dispatcher.specs.Promise.{Promised}
 use Rattle.dispatcher.specs.declared.Dispatcher.{Dispatcher}
 use Rattle.dispatcher.specs.declared.Outcome.{Outcome}
 use Rattle.dispatcher.proofs.Promises.{none-applies, slot-below}
-use Rattle.order.specs.ComesBefore.{ComesBefore}
+use Rattle.order.specs.ComesBefore.{ComesBefore, priorityOf}
 use Rattle.order.specs.Changes.{joinedOf, leftOf}
-use Rattle.order.proofs.Joining.{joined-shaped, joined-new, joined-old, joined-only, joined-before, joined-sound}
+use Rattle.order.proofs.Joining.{joined-shaped, joined-new, joined-old, joined-only, joined-before, joined-sound, joined-last}
 use Rattle.order.proofs.Leaving.{left-shaped, left-only, left-old, left-before, left-sound}
 use Rattle.shifting.specs.Board.{Runs, Waits, withSeats}
 use Rattle.shifting.specs.Picking.{rankAt}
@@ -34,6 +34,7 @@ use Rattle.readiness.proofs.Freeing.{freed-idle, freed-sound}
 use Rattle.readiness.proofs.Same.{block-was}
 use Rattle.readiness.proofs.Reseating.{reseated-ready, ready-before, reseated-keeps, reseated-least, reseated}
 use Rattle.dispatcher.proofs.Ready.{ready-real}
+use Rattle.shifting.specs.Arriving.{ArrivesIn}
 
 -- ---- a call that may be refused
 
@@ -105,6 +106,23 @@ module _ {d : Dispatcher} {slot : ℕ} {r : Outcome} (L : Shaped d) (S : Sound d
 pub wake-rule : {d : Dispatcher} {slot : ℕ} {r : Outcome} → Shaped d → Sound d → KeepsIn d (seatAt d) → Wakes d slot r
     → KeepsIn (r .dispatcher) (seatAt (r .dispatcher)) × (numberOf (r .report .answer) ≡ 0 → LeastIn (r .dispatcher) (seatAt d) (seatAt (r .dispatcher)) (r .report .moves))
 wake-rule L S K W = promised-rule W K (λ z. woken-rule L S (slot-below (W .answer) z) (wake-off L S W z) (wake-used L S W z) K (W .done z))
+
+-- an equal priority never pushes: who stops has a lower one
+pub stopped-lower : {d : Dispatcher} {slot : ℕ} {r : Outcome} → Shaped d → Sound d → Wakes d slot r → numberOf (r .report .answer) ≡ 0 → r .report .stopped ≢ none
+    → priorityOf d (r .report .stopped) < priorityOf d slot
+stopped-lower {d} {slot} {r} L S W z n = go (W .done z .arrives)
+  where
+    go : ArrivesIn (joinedOf d slot) slot (seatAt (r .dispatcher)) (r .report .moves) (r .report .started) (r .report .stopped) → priorityOf d (r .report .stopped) < priorityOf d slot
+    go (inl h) = absurd (n (h .stops))
+    go (inr (inr h)) = absurd (n (h .stops))
+    go (inr (inl h)) = rw (h .stops) (lower (h .before))
+      where
+        sitter : Ready d (seatAt d (h .core))
+        sitter = legal S .ready (h .core) (reached-below (h .last .reached)) (h .full .held (h .core) (h .last .reached))
+
+        lower : ComesBefore (joinedOf d slot) slot (seatAt d (h .core)) → priorityOf d (seatAt d (h .core)) < priorityOf d slot
+        lower (inl l) = l
+        lower (inr (e, l)) = let k = joined-last L S (slot-below (W .answer) z) (wake-off L S W z) sitter in absurd (omega arith)
 
 -- ---- a task leaves the wake order, and the seats are l
 
