@@ -1,11 +1,9 @@
 -- Any two results that the promise of wake, or of block, allows are the same.
 use Prim.Native.Nat.{ℕ}
-use mathlib.Core.Path.{_≡_, refl, sym, ap, _∙_}
+use mathlib.Core.Path.{_≡_, sym, ap, _∙_}
 use mathlib.Core.Logic.{_⊎_, inl, inr}
-use mathlib.Core.Bool.{true, false}
 use lib.ListN.{length}
 use lib.Seq.{ext-getD}
-use Rattle.laws.proofs.Deciding.{cases}
 use Rattle.seating.proofs.Same.{runs-dec}
 use Rattle.seating.proofs.Once.{arrives-same, fills-same}
 use Rattle.dispatcher.specs.Limits.{none}
@@ -16,14 +14,13 @@ use Rattle.dispatcher.specs.Promise.{Promised}
 use Rattle.dispatcher.specs.declared.Dispatcher.{Dispatcher}
 use Rattle.dispatcher.specs.declared.Report.{Report}
 use Rattle.dispatcher.specs.declared.Outcome.{Outcome}
-use Rattle.dispatcher.proofs.Promises.{none-applies}
-use Rattle.dispatcher.proofs.Testing.{readyTest, ready-decides}
 use Rattle.dispatcher.proofs.Same.{outcome-same, promised-same}
 use Rattle.order.specs.Changes.{joinedOf}
 use Rattle.order.proofs.Ranking.{before-not-back}
 use Rattle.shifting.specs.Board.{Runs, withSeats}
 use Rattle.readiness.specs.Wake.{Woken, Wakes}
 use Rattle.readiness.specs.Block.{Refills, Blocked, blockRefusals, Blocks}
+use Rattle.readiness.proofs.Turning.{blocked-ready}
 
 -- ---- a dispatcher with other seats, and a report of it
 
@@ -64,11 +61,7 @@ blocked-same {d} {slot} {r} {q} ready e a b = go (runs-dec (d .cores) none (seat
 
 -- where a block is done, the slot was ready
 pub block-was : {d : Dispatcher} {slot : ℕ} {r : Outcome} → Blocks d slot r → numberOf (r .report .answer) ≡ 0 → Ready d slot
-block-was {d} {slot} B z = go (cases (readyTest d slot))
-  where
-    go : (readyTest d slot ≡ true) ⊎ (readyTest d slot ≡ false) → Ready d slot
-    go (inl y) = ready-decides d slot .yes y
-    go (inr n) = absurd (none-applies (B .answer) z 10 (inr (inr (inr (inl (refl, ready-decides d slot .no n))))))
+block-was B z = blocked-ready (rw z at (B .answer))
 
 pub blocks-same : {d : Dispatcher} {slot : ℕ} {r q : Outcome} → Blocks d slot r → Blocks d slot q → r ≡ q
 blocks-same {d} {slot} a b = promised-same (λ e f g. blocked-same (f .1) e (f .0) (g .0)) (from-ready a) (from-ready b)

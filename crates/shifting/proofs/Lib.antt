@@ -3,3 +3,4 @@ mod Picking
 mod Seeking
 mod Deciding
 pub mod Board
+pub mod Same
