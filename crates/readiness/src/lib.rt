@@ -50,6 +50,7 @@ fn core_of(seats: [u16; Dispatcher::CORES], slot: u16) -> usize
     c
 }
 
+// The dispatcher after a shift, and its report.
 fn shifted(d: Dispatcher, shift: Shift) -> Outcome
     ensures { λ r. ⌜ Shifted d shift r ⌝ }
 {
@@ -68,6 +69,7 @@ fn shifted(d: Dispatcher, shift: Shift) -> Outcome
     }
 }
 
+// A wake that is not refused.
 fn woken(d: Dispatcher, slot: u16) -> Outcome
     requires { ⌜ Answers (wakeRefusals d slot) 0 ⌝ }
     ensures { λ r. ⌜ (numberOf (r .report .answer) ≡ 0) × Woken d slot r ⌝ }
@@ -80,6 +82,7 @@ fn woken(d: Dispatcher, slot: u16) -> Outcome
     shifted(joined, shift)
 }
 
+// A block that is not refused.
 fn blocked(d: Dispatcher, slot: u16) -> Outcome
     requires { ⌜ Answers (blockRefusals d slot) 0 ⌝ }
     ensures { λ r. ⌜ (numberOf (r .report .answer) ≡ 0) × Blocked d slot r ⌝ }

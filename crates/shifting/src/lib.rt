@@ -65,6 +65,7 @@ fn sitters(d: Dispatcher) -> [u32; Dispatcher::CORES]
     masks
 }
 
+// The idle cores, as a mask.
 fn idle_cores(d: Dispatcher) -> u32
     ensures { λ r. ⌜ IdleCores d r ⌝ }
 {
@@ -105,6 +106,7 @@ fn last_on(d: Dispatcher, places: &[u16; Dispatcher::SLOTS], seen: u32) -> usize
     last
 }
 
+// Whether a slot that has this place in the wake order and this core, or NONE, waits and its mask meets the cores.
 fn seeks(mask: u32, place: u16, core: u16, lead: u32) -> bool
     ensures { λ r. ⌜ r ≡ seekTest mask place core lead ⌝ }
 {
