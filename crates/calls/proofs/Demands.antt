@@ -25,7 +25,7 @@ use Rattle.tasks.specs.Create.{createRefusals}
 use Rattle.tasks.specs.Delete.{deleteRefusals}
 use Rattle.readiness.specs.Wake.{wakeRefusals}
 use Rattle.readiness.specs.Block.{blockRefusals}
-use Rattle.calls.specs.Call.{Call, create, delete, wake, block, Does, refusalsOf, Fits}
+use Rattle.calls.specs.Call.{Call, create, delete, wake, block, Does, refusalsOf}
 use Rattle.calls.specs.Sequence.{Step, After}
 use Rattle.calls.specs.Woken.{WokenSince}
 use Rattle.calls.specs.Demands.{Demand2}

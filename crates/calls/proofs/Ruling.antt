@@ -19,12 +19,12 @@ use Rattle.dispatcher.specs.declared.Outcome.{Outcome}
 use Rattle.dispatcher.proofs.Promises.{none-applies}
 use Rattle.dispatcher.proofs.Freshness.{freshly-keeps}
 use Rattle.order.specs.ComesBefore.{priorityOf, ComesBefore}
-use Rattle.shifting.specs.Rule.{KeepsIn, LeastIn}
+use Rattle.shifting.specs.Rule.{KeepsIn}
 use Rattle.shifting.proofs.Board.{legal}
 use Rattle.tasks.specs.Table.{withTask, Writes}
 use Rattle.tasks.specs.Create.{Creates}
 use Rattle.tasks.specs.Delete.{Deletes}
-use Rattle.readiness.proofs.Keeping.{promised-keeps, Rule, promised-rule, some-core, wake-rule, block-rule}
+use Rattle.readiness.proofs.Keeping.{Ruled, promised-keeps, Rule, promised-rule, some-core, wake-rule, block-rule}
 use Rattle.calls.specs.Call.{Call, create, delete, wake, block, Does}
 use Rattle.tasks.proofs.Keeping.{created-off}
 
@@ -81,8 +81,7 @@ module _ (d : Dispatcher) (slot : ℕ) (v : Task) (off : Ready d slot → ⊥) w
 
 -- ---- create and delete
 
-pub create-rule : {d : Dispatcher} {slot priority mask : ℕ} {r : Outcome} → Sound d → KeepsIn d (seatAt d) → Creates d slot priority mask r
-    → KeepsIn (r .dispatcher) (seatAt (r .dispatcher)) × (numberOf (r .report .answer) ≡ 0 → LeastIn (r .dispatcher) (seatAt d) (seatAt (r .dispatcher)) (r .report .moves))
+pub create-rule : {d : Dispatcher} {slot priority mask : ℕ} {r : Outcome} → Sound d → KeepsIn d (seatAt d) → Creates d slot priority mask r → Ruled d r
 create-rule {d} {slot} S K C = promised-rule C K (λ z. writes-rule d slot _ (created-off S C z) S K (C .done z))
 
 pub create-ready : {d : Dispatcher} {slot priority mask : ℕ} {r : Outcome} → Sound d → Creates d slot priority mask r → (t : ℕ) → Ready (r .dispatcher) t ↔ Ready d t
@@ -92,8 +91,7 @@ module _ {d : Dispatcher} {slot : ℕ} {r : Outcome} (D : Deletes d slot r) (z :
   deleted-off : Ready d slot → ⊥
   deleted-off q = none-applies (D .answer) z 11 (inr (inr (inr (inl (refl, q)))))
 
-pub delete-rule : {d : Dispatcher} {slot : ℕ} {r : Outcome} → Sound d → KeepsIn d (seatAt d) → Deletes d slot r
-    → KeepsIn (r .dispatcher) (seatAt (r .dispatcher)) × (numberOf (r .report .answer) ≡ 0 → LeastIn (r .dispatcher) (seatAt d) (seatAt (r .dispatcher)) (r .report .moves))
+pub delete-rule : {d : Dispatcher} {slot : ℕ} {r : Outcome} → Sound d → KeepsIn d (seatAt d) → Deletes d slot r → Ruled d r
 delete-rule {d} {slot} S K D = promised-rule D K (λ z. writes-rule d slot noTask (deleted-off D z) S K (D .done z))
 
 pub delete-ready : {d : Dispatcher} {slot : ℕ} {r : Outcome} → Deletes d slot r → (t : ℕ) → Ready (r .dispatcher) t ↔ Ready d t
@@ -101,8 +99,7 @@ delete-ready {d} {slot} D t = promised-keeps (λ x. Ready x t ↔ Ready d t) D I
 
 -- ---- any call
 
-pub does-rule : (c : Call) {d : Dispatcher} (r : Outcome) → Shaped d → Sound d → KeepsIn d (seatAt d) → Does c d r
-    → KeepsIn (r .dispatcher) (seatAt (r .dispatcher)) × (numberOf (r .report .answer) ≡ 0 → LeastIn (r .dispatcher) (seatAt d) (seatAt (r .dispatcher)) (r .report .moves))
+pub does-rule : (c : Call) {d : Dispatcher} (r : Outcome) → Shaped d → Sound d → KeepsIn d (seatAt d) → Does c d r → Ruled d r
 does-rule (create slot priority mask) r L S K h = create-rule S K h
 does-rule (delete slot) r L S K h = delete-rule S K h
 does-rule (wake slot) r L S K h = wake-rule L S K h

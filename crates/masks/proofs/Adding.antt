@@ -7,6 +7,7 @@ use lib.Dec.{eqb}
 use borrow.Author.Tests.{lt-ltb, le-ltb}
 use Rattle.masks.specs.Masks.{width, has, Added}
 use Rattle.masks.proofs.Operators.{has-or, has-power, shl-one, same-bits}
+use Rattle.masks.proofs.Bits.{has-zero}
 
 and-true : (b : Bool) → b && true ≡ b
 and-true true = refl
@@ -24,6 +25,10 @@ added m c l = record {
 
 pub none-added : (m c : ℕ) → width ≤ c → Added m c m
 none-added m c l = record { each = λ k. rw (le-ltb c width l) (sym (or-and-false (has m k) (eqb k c))) }
+
+-- the mask of one core alone
+pub only-core : {c r : ℕ} → c < width → Added 0 c r → (k : ℕ) → has r k ≡ eqb k c
+only-core {c} l A k = A .each k ∙ rw (has-zero k, lt-ltb c width l) (and-true (eqb k c))
 
 pub added-same : {m c r q : ℕ} → r < 2 ^ width → q < 2 ^ width → Added m c r → Added m c q → r ≡ q
 added-same {r = r} {q} l k a b = same-bits width r q l k (λ i. a .each i ∙ sym (b .each i))

@@ -51,9 +51,12 @@ promised-keeps {r = r} P h before done = go (ℕ-discrete (numberOf (r .report .
 abbrev pub Rule : Dispatcher → Dispatcher → ℕ → Type 0
 Rule d x moves = KeepsIn x (seatAt x) × LeastIn x (seatAt d) (seatAt x) moves
 
+-- a call on d, refused or done, keeps demand 2, and where it is done demand 3
+abbrev pub Ruled : Dispatcher → Outcome → Type 0
+Ruled d r = KeepsIn (r .dispatcher) (seatAt (r .dispatcher)) × (numberOf (r .report .answer) ≡ 0 → LeastIn (r .dispatcher) (seatAt d) (seatAt (r .dispatcher)) (r .report .moves))
+
 pub promised-rule : {rs : List Refusal} {d : Dispatcher} {Does : Outcome → Type 0} {r : Outcome} → Promised rs d Does r → KeepsIn d (seatAt d)
-    → (numberOf (r .report .answer) ≡ 0 → Rule d (r .dispatcher) (r .report .moves))
-    → KeepsIn (r .dispatcher) (seatAt (r .dispatcher)) × (numberOf (r .report .answer) ≡ 0 → LeastIn (r .dispatcher) (seatAt d) (seatAt (r .dispatcher)) (r .report .moves))
+    → (numberOf (r .report .answer) ≡ 0 → Rule d (r .dispatcher) (r .report .moves)) → Ruled d r
 promised-rule h K done = (promised-keeps (λ x. KeepsIn x (seatAt x)) h K (λ z. done z .0), λ z. done z .1)
 
 pub some-core : {d : Dispatcher} → Sound d → 0 < d .cores
@@ -103,8 +106,7 @@ module _ {d : Dispatcher} {slot : ℕ} {r : Outcome} (L : Shaped d) (S : Sound d
   pub wake-ready : numberOf (r .report .answer) ≡ 0 → (t : ℕ) → Ready (r .dispatcher) t ↔ (Ready d t ⊎ (t ≡ slot))
   wake-ready z = woken-ready L S (slot-below (W .answer) z) (wake-off z) (W .done z)
 
-pub wake-rule : {d : Dispatcher} {slot : ℕ} {r : Outcome} → Shaped d → Sound d → KeepsIn d (seatAt d) → Wakes d slot r
-    → KeepsIn (r .dispatcher) (seatAt (r .dispatcher)) × (numberOf (r .report .answer) ≡ 0 → LeastIn (r .dispatcher) (seatAt d) (seatAt (r .dispatcher)) (r .report .moves))
+pub wake-rule : {d : Dispatcher} {slot : ℕ} {r : Outcome} → Shaped d → Sound d → KeepsIn d (seatAt d) → Wakes d slot r → Ruled d r
 wake-rule L S K W = promised-rule W K (λ z. woken-rule L S (slot-below (W .answer) z) (wake-off L S W z) (wake-used L S W z) K (W .done z))
 
 -- an equal priority never pushes: who stops has a lower one
@@ -202,8 +204,7 @@ module _ {d : Dispatcher} {slot : ℕ} {r : Outcome} (L : Shaped d) (S : Sound d
       go (inl on) = rw (B .done y .ran (on .core) (on .below) (on .sits) .rest) (gone-ready slot L S (r .dispatcher .seats) t)
       go (inr w) = rw (B .done y .waited w .0) (gone-ready slot L S (d .seats) t)
 
-pub block-rule : {d : Dispatcher} {slot : ℕ} {r : Outcome} → Shaped d → Sound d → KeepsIn d (seatAt d) → Blocks d slot r
-    → KeepsIn (r .dispatcher) (seatAt (r .dispatcher)) × (numberOf (r .report .answer) ≡ 0 → LeastIn (r .dispatcher) (seatAt d) (seatAt (r .dispatcher)) (r .report .moves))
+pub block-rule : {d : Dispatcher} {slot : ℕ} {r : Outcome} → Shaped d → Sound d → KeepsIn d (seatAt d) → Blocks d slot r → Ruled d r
 block-rule {d} {slot} {r} L S K B = promised-rule B K (λ y. done y (ran-or-waited L S B y))
   where
     done : (y : numberOf (r .report .answer) ≡ 0) → Runs d slot ⊎ Waits d slot → Rule d (r .dispatcher) (r .report .moves)

@@ -18,6 +18,6 @@ pub record Moved (n e : ℕ) (s s′ : ℕ → ℕ) (c : ℕ) : Type 0 where
 unfoldable pub movedAt : ℕ → ℕ → (ℕ → ℕ) → (ℕ → ℕ) → ℕ → Bool
 movedAt n e s s′ c = not (eqb (s c) e) && anyBelow (λ d. not (eqb d c) && eqb (s′ d) (s c)) n
 
--- how many tasks are moved: of how many cores the task is (a task sits on one core only)
+-- how many tasks are moved, counted by the cores that they leave, since a task sits on one core only
 unfoldable pub moved : ℕ → ℕ → (ℕ → ℕ) → (ℕ → ℕ) → ℕ
 moved n e s s′ = count (movedAt n e s s′) n

@@ -9,7 +9,7 @@ use mathlib.Core.Bool.{Bool, true}
 abbrev pub May : ℕ → (ℕ → ℕ → Bool) → ℕ → ℕ → Type 0
 May n may t c = (c < n) × (may t c ≡ true)
 
--- task t sits on a core
+-- task t sits on a core; that whoever sits is ready is part of demand 2 (`Legal`)
 pub record Running (n e : ℕ) (s : ℕ → ℕ) (t : ℕ) : Type 0 where
   pub real : t ≢ e
   pub core : ℕ

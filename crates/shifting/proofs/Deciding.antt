@@ -2,17 +2,15 @@
 use Prim.Native.Nat.{ℕ, _≤_, _<_}
 use mathlib.Core.Path.{_≡_, refl, ap, _∙_}
 use mathlib.Core.Logic.{_≢_, _⊎_, inl, inr}
-use mathlib.Core.Bool.{Bool, true, false, _&&_}
+use mathlib.Core.Bool.{true, false}
 use mathlib.Core.List.{List}
 use native.Mathlib.Omega.{arith}
 use lib.Dec.{eqb, leb}
-use borrow.Author.Tests.{lt-ltb}
 use Rattle.laws.specs.Pick.{Picked}
 use Rattle.laws.proofs.Deciding.{cases, clash}
 use Rattle.laws.proofs.Testing.{eqb-true}
 use Rattle.laws.proofs.Picking.{picked-real, none-picked}
 use Rattle.masks.specs.Masks.{width, has, Added}
-use Rattle.masks.proofs.Bits.{has-zero}
 use Rattle.seating.specs.Reached.{Reached}
 use Rattle.seating.specs.Arrival.{NoIdle}
 use Rattle.seating.proofs.Choice.{unreached-target}
@@ -35,14 +33,7 @@ use Rattle.shifting.specs.Shifts.{Arrived, Refilled, stillAt, Takable, t
 use Rattle.shifting.specs.Picking.{rankAt, LastOn, Held, FirstSeeking}
 use Rattle.shifting.specs.declared.Shift.{Shift}
 use Rattle.shifting.proofs.Board.{core-below, legal, ranked, sitters-masks, found-shift}
-
--- the mask of one core alone
-pub only-core : {z m : ℕ} → z < width → Added 0 z m → (c : ℕ) → has m c ≡ eqb c z
-only-core {z} {m} l A c = A .each c ∙ rw (has-zero c, lt-ltb z width l) (and-true (eqb c z))
-  where
-    and-true : (b : Bool) → b && true ≡ b
-    and-true true = refl
-    and-true false = refl
+use Rattle.masks.proofs.Adding.{only-core}
 
 pub searched-found : {n : ℕ} {masks : List ℕ} {start target : ℕ} {r : Route} → Searched n masks start target r → r .found ≡ true → Found n masks start target r
 searched-found (inl F) t = F

@@ -7,6 +7,7 @@ use lib.ListN.{getD, length-map}
 use borrow.Author.Needs.{needs}
 use Rattle.laws.proofs.Testing.{eqb-true}
 use Rattle.masks.specs.Masks.{Added}
+use Rattle.masks.proofs.Adding.{only-core}
 use Rattle.dispatcher.specs.Limits.{coreLimit, slotLimit}
 use Rattle.dispatcher.specs.Slots.{taskAt, seatAt, Ready, Shaped}
 use Rattle.dispatcher.specs.declared.Dispatcher.{Dispatcher}
@@ -19,7 +20,7 @@ use Rattle.shifting.specs.declared.Shift.{Shift}
 use Rattle.shifting.specs.Picking.{rankAt}
 use Rattle.shifting.proofs.Board.{core-below}
 use Rattle.shifting.proofs.Picking.{rank-told}
-use Rattle.shifting.proofs.Deciding.{only-core, takable, reached-held, last-real, last-ready, must-wait, loser-found, loser-pushed}
+use Rattle.shifting.proofs.Deciding.{takable, reached-held, last-real, last-ready, must-wait, loser-found, loser-pushed}
 use Rattle.shifting.proofs.push.Statement.{statement}
 use Rattle.shifting.proofs.push.Tie as tie
 
