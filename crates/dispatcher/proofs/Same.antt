@@ -12,7 +12,7 @@ use Rattle.dispatcher.specs.Reports.{stillOf}
 use Rattle.dispatcher.specs.Promise.{Promised}
 use Rattle.dispatcher.specs.Fresh.{Freshly}
 use Rattle.dispatcher.specs.declared.Answer.{Answer}
-use Rattle.dispatcher.specs.declared.Answer.the-variants.{Done, NotSound, CoreCount, SlotAbove, SlotInUse, SlotEmpty, PriorityZero, MaskEmpty, MissingCore, AlreadyReady, NotReady, StillReady}
+use Rattle.dispatcher.specs.declared.Answer.the-variants.{Done, NotSound, CoreCount, SlotAbove, SlotInUse, SlotEmpty, PriorityZero, MaskEmpty, MissingCore, AlreadyReady, NotReady, StillReady, FileShort, BytesAfter, BadKind, LineLong, EventCount}
 use Rattle.dispatcher.specs.declared.Dispatcher.{Dispatcher}
 use Rattle.dispatcher.specs.declared.Outcome.{Outcome}
 
@@ -22,7 +22,8 @@ answerOf : ℕ → Answer
 answerOf n =
     cond (eqb n 0) Done (cond (eqb n 1) NotSound (cond (eqb n 2) CoreCount (cond (eqb n 3) SlotAbove (cond (eqb n 4) SlotInUse
     (cond (eqb n 5) SlotEmpty (cond (eqb n 6) PriorityZero (cond (eqb n 7) MaskEmpty (cond (eqb n 8) MissingCore
-    (cond (eqb n 9) AlreadyReady (cond (eqb n 10) NotReady StillReady))))))))))
+    (cond (eqb n 9) AlreadyReady (cond (eqb n 10) NotReady (cond (eqb n 11) StillReady (cond (eqb n 12) FileShort (cond (eqb n 13) BytesAfter
+    (cond (eqb n 14) BadKind (cond (eqb n 15) LineLong EventCount)))))))))))))))
 
 answer-back : (a : Answer) → answerOf (numberOf a) ≡ a
 unfolding answerOf
@@ -38,6 +39,11 @@ answer-back MissingCore = refl
 answer-back AlreadyReady = refl
 answer-back NotReady = refl
 answer-back StillReady = refl
+answer-back FileShort = refl
+answer-back BytesAfter = refl
+answer-back BadKind = refl
+answer-back LineLong = refl
+answer-back EventCount = refl
 
 pub number-same : {a b : Answer} → numberOf a ≡ numberOf b → a ≡ b
 number-same {a} {b} e = sym (answer-back a) ∙ ap answerOf e ∙ answer-back b

@@ -14,7 +14,7 @@ use Rattle.dispatcher.specs.Refusals.{IsUnsound}
 use Rattle.dispatcher.specs.declared.Dispatcher.{Dispatcher}
 use Rattle.dispatcher.proofs.Testing.{readyTest, ready-decides}
 
-by-dec : {P : Type 0} → Dec P → ((P → ⊥) → ⊥) → P
+pub by-dec : {P : Type 0} → Dec P → ((P → ⊥) → ⊥) → P
 by-dec (yes p) h = p
 by-dec (no n) h = absurd (h n)
 

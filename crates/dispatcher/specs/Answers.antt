@@ -4,7 +4,7 @@ use mathlib.Core.Path.{_≡_}
 use mathlib.Core.Logic.{_≢_, _⊎_}
 use mathlib.Core.List.{List, [], _∷_}
 use Rattle.dispatcher.specs.declared.Answer.{Answer}
-use Rattle.dispatcher.specs.declared.Answer.the-variants.{Done, NotSound, CoreCount, SlotAbove, SlotInUse, SlotEmpty, PriorityZero, MaskEmpty, MissingCore, AlreadyReady, NotReady, StillReady}
+use Rattle.dispatcher.specs.declared.Answer.the-variants.{Done, NotSound, CoreCount, SlotAbove, SlotInUse, SlotEmpty, PriorityZero, MaskEmpty, MissingCore, AlreadyReady, NotReady, StillReady, FileShort, BytesAfter, BadKind, LineLong, EventCount}
 
 infix 80 _when_
 abbrev pub numberOf : Answer → ℕ
@@ -20,6 +20,11 @@ numberOf MissingCore = 8
 numberOf AlreadyReady = 9
 numberOf NotReady = 10
 numberOf StillReady = 11
+numberOf FileShort = 12
+numberOf BytesAfter = 13
+numberOf BadKind = 14
+numberOf LineLong = 15
+numberOf EventCount = 16
 
 -- a row of the table: a number, and when it is given
 pub record Refusal : Type 1 where

@@ -13,6 +13,10 @@ slotLimit = 128
 abbrev pub none : ℕ
 none = 255
 
+-- an event file has at most so many events
+abbrev pub eventLimit : ℕ
+eventLimit = 16000
+
 abbrev pub greatestPriority : ℕ
 greatestPriority = 255
 

@@ -55,6 +55,11 @@ pub enum Answer {
     AlreadyReady,
     NotReady,
     StillReady,
+    FileShort,
+    BytesAfter,
+    BadKind,
+    LineLong,
+    EventCount,
 }
 
 impl Answer {
@@ -74,6 +79,11 @@ impl Answer {
             Answer::AlreadyReady => 9,
             Answer::NotReady => 10,
             Answer::StillReady => 11,
+            Answer::FileShort => 12,
+            Answer::BytesAfter => 13,
+            Answer::BadKind => 14,
+            Answer::LineLong => 15,
+            Answer::EventCount => 16,
         }
     }
 }

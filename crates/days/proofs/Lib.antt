@@ -1,0 +1,5 @@
+pub mod Calling
+pub mod Stepping
+pub mod Printing
+pub mod Same
+pub mod Days

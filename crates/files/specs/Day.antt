@@ -1,0 +1,61 @@
+-- A day, and the event file that says it: its three sections, one after the other.
+use Prim.Native.Nat.{ℕ, zero, suc, _/_, _%_, _^_, _≤_, _<_}
+use mathlib.Core.List.{List, [], _∷_, _++_}
+use lib.ListN.{length}
+use Rattle.dispatcher.specs.Limits.{eventLimit, LegalCount}
+use Rattle.files.specs.Layout.{byte, maskBytes}
+use Rattle.files.specs.Faults.{IsEventKind}
+
+pub record TaskRecord : Type 0 where
+  pub slot : ℕ
+  pub priority : ℕ
+  pub mask : ℕ
+
+pub record Happening : Type 0 where
+  pub kind : ℕ
+  pub slot : ℕ
+
+pub record Day : Type 0 where
+  pub cores : ℕ
+  pub records : List TaskRecord
+  pub events : List Happening
+
+-- n in k bytes, lowest first
+abbrev pub bytesOf : ℕ → ℕ → List ℕ
+bytesOf zero n = []
+bytesOf (suc k) n = n % 256 ∷ bytesOf k (n / 256)
+
+abbrev pub recordBytes : List TaskRecord → List ℕ
+recordBytes [] = []
+recordBytes (r ∷ rs) = r .slot ∷ r .priority ∷ (bytesOf maskBytes (r .mask) ++ recordBytes rs)
+
+abbrev pub eventBytes : List Happening → List ℕ
+eventBytes [] = []
+eventBytes (e ∷ es) = e .kind ∷ e .slot ∷ eventBytes es
+
+-- the core count; the tasks after their count; the events after theirs
+abbrev pub fileOf : Day → List ℕ
+fileOf d = d .cores ∷ length (d .records) ∷ (recordBytes (d .records) ++ (bytesOf 2 (length (d .events)) ++ eventBytes (d .events)))
+
+abbrev pub FitsByte : ℕ → Type 0
+FitsByte n = n < 256
+
+-- each number of the list is a byte
+abbrev pub Bytes : List ℕ → Type 0
+Bytes b = (o : ℕ) → FitsByte (byte b o)
+
+abbrev pub AllRecords : (TaskRecord → Type 0) → List TaskRecord → Type 0
+AllRecords P [] = Unit {0}
+AllRecords P (r ∷ rs) = P r × AllRecords P rs
+
+abbrev pub AllEvents : (Happening → Type 0) → List Happening → Type 0
+AllEvents P [] = Unit {0}
+AllEvents P (e ∷ es) = P e × AllEvents P es
+
+-- what a file can say: each field in its bytes, a legal core count, each kind an event's, and no more events than allowed
+pub record LegalDay (d : Day) : Type 0 where
+  pub count : LegalCount (d .cores)
+  pub many-records : FitsByte (length (d .records))
+  pub records : AllRecords (λ (r : TaskRecord). FitsByte (r .slot) × FitsByte (r .priority) × (r .mask < 256 ^ maskBytes)) (d .records)
+  pub many-events : length (d .events) ≤ eventLimit
+  pub events : AllEvents (λ (e : Happening). IsEventKind (e .kind) × FitsByte (e .slot)) (d .events)

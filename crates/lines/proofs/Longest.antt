@@ -1,0 +1,94 @@
+-- No line is longer than the bytes it is made in: so many digits has a number of each width, and so many seats are there.
+use Prim.Native.Nat.{ℕ, suc, _*_, _^_, _≤_, _<_}
+use mathlib.Core.Path.{_≡_, refl}
+use mathlib.Core.List.{List, [], _∷_, map}
+use native.Mathlib.Decide.{ℕ-discrete}
+use native.Mathlib.Omega.{arith}
+use lib.ListN.{length, take, getD, length-append}
+use lib.Seq.{length-take-le, getD-take}
+use Rattle.laws.proofs.Lists.{getD-any}
+use Rattle.decimals.proofs.Spelling.{decimal-length}
+use Rattle.dispatcher.specs.Limits.{coreLimit, none}
+use Rattle.dispatcher.specs.Slots.{seatAt}
+use Rattle.dispatcher.specs.Sound.{Sound}
+use Rattle.dispatcher.specs.Answers.{numberOf}
+use Rattle.dispatcher.specs.declared.Answer.{Answer}
+use Rattle.dispatcher.specs.declared.Answer.the-variants.{Done, NotSound, CoreCount, SlotAbove, SlotInUse, SlotEmpty, PriorityZero, MaskEmpty, MissingCore, AlreadyReady, NotReady, StillReady, FileShort, BytesAfter, BadKind, LineLong, EventCount}
+use Rattle.dispatcher.specs.declared.Dispatcher.{Dispatcher}
+use Rattle.lines.specs.declared.Line.{Line}
+use Rattle.lines.specs.Text.{space, comma, after, slotText, seatsText, faultText}
+use Rattle.lines.specs.Line.{textOf}
+use Rattle.lines.proofs.Parts.{slot-dash, slot-number, line-length, event-length, report-length, fault-length}
+
+number-below : (a : Answer) → numberOf a < 17
+number-below Done = omega arith
+number-below NotSound = omega arith
+number-below CoreCount = omega arith
+number-below SlotAbove = omega arith
+number-below SlotInUse = omega arith
+number-below SlotEmpty = omega arith
+number-below PriorityZero = omega arith
+number-below MaskEmpty = omega arith
+number-below MissingCore = omega arith
+number-below AlreadyReady = omega arith
+number-below NotReady = omega arith
+number-below StillReady = omega arith
+number-below FileShort = omega arith
+number-below BytesAfter = omega arith
+number-below BadKind = omega arith
+number-below LineLong = omega arith
+number-below EventCount = omega arith
+
+-- a slot's text is one dash or at most as long as its number
+slot-longest : (k slot : ℕ) → 1 ≤ k → slot < 10 ^ k → length (slotText slot) ≤ k
+slot-longest k slot p l = go (ℕ-discrete slot none)
+  where
+    go : Dec (slot ≡ none) → length (slotText slot) ≤ k
+    go (yes e) = rw (slot-dash slot e) p
+    go (no e) = rw (slot-number slot e) (decimal-length k slot p l)
+
+-- a character and five digits for each
+commas-longest : (xs : List ℕ) → ((c : ℕ) → c < length xs → getD xs c 0 < 10 ^ 5) → length (after comma (map slotText xs)) ≤ 6 * length xs
+commas-longest [] small = omega arith
+commas-longest (x ∷ xs) small =
+    let rest = commas-longest xs (λ c l. small (suc c) (omega arith)) in
+    omega (arith, slot-longest 5 x (omega arith) (small 0 (omega arith)), length-append (slotText x) (after comma (map slotText xs)))
+
+seats-longest : (xs : List ℕ) → length xs ≤ 32 → ((c : ℕ) → c < length xs → getD xs c 0 < 10 ^ 5) → length (space ∷ seatsText xs) ≤ 192
+seats-longest [] many small = omega arith
+seats-longest (x ∷ xs) many small = omega (arith, commas-longest (x ∷ xs) small)
+
+-- the numbers of a line are those of its fields' widths
+pub record Wide (l : Line) : Type 0 where
+  pub number : l .number < 2 ^ 32
+  pub slot : l .slot < 2 ^ 16
+  pub moves : l .report .moves < 2 ^ 8
+  pub started : l .report .started < 2 ^ 16
+  pub stopped : l .report .stopped < 2 ^ 16
+
+-- a seat of a sound dispatcher is a slot or the mark
+seats-small : (d : Dispatcher) → Sound d → length (d .seats) ≡ coreLimit → (c : ℕ)
+    → c < length (take (d .cores) (d .seats)) → getD (take (d .cores) (d .seats)) c 0 < 10 ^ 5
+seats-small d sound all c l =
+    let below : c < d .cores = omega (arith, length-take-le (d .cores) (d .seats) (omega (arith, sound .count .1))) in
+    rw (getD-take (d .cores) (d .seats) c 0 below, getD-any (d .seats) c 0 none (omega (arith, sound .count .1)))
+    (go (ℕ-discrete (seatAt d c) none) (omega (arith, sound .count .1)))
+  where
+    go : Dec (seatAt d c ≡ none) → c < coreLimit → seatAt d c < 10 ^ 5
+    go (yes e) k = omega arith
+    go (no n) k = omega (arith, sound .seats c k n .ready .slot)
+
+pub line-longest : (l : Line) (d : Dispatcher) → Wide l → Sound d → length (d .seats) ≡ coreLimit → length (textOf l d) ≤ 231
+line-longest l d w sound all =
+    let seats = take (d .cores) (d .seats) in
+    let many : length seats ≤ 32 = omega (arith, sound .count .1, length-take-le (d .cores) (d .seats) (omega (arith, sound .count .1))) in
+    let number = decimal-length 10 (l .number) (omega arith) (omega arith) in
+    let slot = decimal-length 5 (l .slot) (omega arith) (omega arith) in
+    let answer = decimal-length 3 (numberOf (l .report .answer)) (omega arith) (omega (arith, number-below (l .report .answer))) in
+    let moves = decimal-length 3 (l .report .moves) (omega arith) (omega arith) in
+    let started = slot-longest 5 (l .report .started) (omega arith) (omega arith) in
+    let stopped = slot-longest 5 (l .report .stopped) (omega arith) (omega arith) in
+    omega (arith, line-length l seats, event-length l, report-length (l .report) refl, seats-longest seats many (seats-small d sound all))
+
+pub fault-longest : (n offset : ℕ) → n < 2 ^ 8 → offset < 2 ^ 64 → length (faultText n offset) ≤ 36
+fault-longest n offset a b = omega (arith, fault-length n offset, decimal-length 3 n (omega arith) (omega arith), decimal-length 20 offset (omega arith) (omega arith))

@@ -1,0 +1,49 @@
+-- The parts of a line and of the line of a refused file: what they are one after the other, and how long they are together.
+use Prim.Native.Nat.{ℕ, _+_}
+use mathlib.Core.Path.{_≡_, _∙_, ap}
+use mathlib.Core.Logic.{_≢_}
+use mathlib.Core.List.{List, [], _∷_, _++_, append-assoc, append-nil}
+use native.Mathlib.Omega.{arith}
+use borrow.Author.Tests.{eq-eqb, ne-eqb}
+use lib.ListN.{length, length-append}
+use Rattle.decimals.specs.Decimal.{decimal}
+use Rattle.dispatcher.specs.Limits.{none}
+use Rattle.dispatcher.specs.Answers.{numberOf}
+use Rattle.dispatcher.specs.declared.Report.{Report}
+use Rattle.lines.specs.declared.Line.{Line}
+use Rattle.lines.specs.Text.{space, newline, dash, after, joined, eventFields, reportFields, slotText, seatsText, lineText, refusedWord, atWord, faultText}
+
+pub slot-dash : (slot : ℕ) → slot ≡ none → slotText slot ≡ dash ∷ []
+unfolding slotText
+slot-dash slot e = rw (eq-eqb slot none e)
+
+pub slot-number : (slot : ℕ) → slot ≢ none → slotText slot ≡ decimal slot
+unfolding slotText
+slot-number slot n = rw (ne-eqb slot none n)
+
+pub event-length : (l : Line) → length (joined space (eventFields l)) ≡ 3 + (length (decimal (l .number)) + length (decimal (l .slot)))
+event-length l = simp (length-append, append-nil) (omega arith)
+
+-- with the answer's number under any name
+pub report-length : (r : Report) {n : ℕ} → n ≡ numberOf (r .answer)
+    → length (after space (reportFields r)) ≡ 4 + (length (decimal n) + (length (decimal (r .moves)) + (length (slotText (r .started)) + length (slotText (r .stopped)))))
+report-length r e = rw e (simp (length-append, append-nil) (omega arith))
+
+pub line-pieces : (l : Line) (seats : List ℕ)
+    → lineText l seats ≡ joined space (eventFields l) ++ (after space (reportFields (l .report)) ++ ((space ∷ seatsText seats) ++ (newline ∷ [])))
+unfolding lineText
+line-pieces l seats = simp (append-assoc, append-nil)
+
+four-length : (a b c d : List ℕ) → length (a ++ (b ++ (c ++ d))) ≡ length a + (length b + (length c + length d))
+four-length a b c d = simp length-append
+
+pub line-length : (l : Line) (seats : List ℕ)
+    → length (lineText l seats) ≡ length (joined space (eventFields l)) + (length (after space (reportFields (l .report))) + (length (space ∷ seatsText seats) + 1))
+line-length l seats = ap length (line-pieces l seats) ∙ four-length (joined space (eventFields l)) (after space (reportFields (l .report))) (space ∷ seatsText seats) (newline ∷ [])
+
+pub fault-pieces : (n offset : ℕ) → faultText n offset ≡ refusedWord ++ ((space ∷ decimal n) ++ ((space ∷ atWord) ++ ((space ∷ decimal offset) ++ (newline ∷ []))))
+unfolding faultText
+fault-pieces n offset = simp (append-assoc, append-nil)
+
+pub fault-length : (n offset : ℕ) → length (faultText n offset) ≡ 13 + (length (decimal n) + length (decimal offset))
+fault-length n offset = rw (fault-pieces n offset) (simp length-append (omega arith))

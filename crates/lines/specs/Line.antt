@@ -1,0 +1,41 @@
+-- Document 01: what the line writer refuses, and which bytes the lent buffer has afterwards.
+use Prim.Native.Nat.{ℕ, _≤_, _<_}
+use mathlib.Core.Path.{_≡_}
+use mathlib.Core.Logic.{_≢_}
+use mathlib.Core.List.{List, [], _∷_, _++_}
+use lib.ListN.{length, take, drop}
+use Rattle.dispatcher.specs.Answers.{numberOf, Refusal, _when_, Answers}
+use Rattle.dispatcher.specs.Refusals.{IsUnsound}
+use Rattle.dispatcher.specs.declared.Dispatcher.{Dispatcher}
+use Rattle.lines.specs.declared.Line.{Line}
+use Rattle.lines.specs.declared.Written.{Written}
+use Rattle.lines.specs.Text.{lineText, faultText}
+
+abbrev pub IsLineKind : ℕ → Type 0
+IsLineKind kind = kind ≤ 3
+
+-- a line with the seats of a dispatcher, one for each of its cores
+abbrev pub textOf : Line → Dispatcher → List ℕ
+textOf l d = lineText l (take (d .cores) (d .seats))
+
+-- 15: line longer than the lent buffer
+abbrev pub IsLong : List ℕ → List ℕ → Type 0
+IsLong text buffer = length buffer < length text
+
+abbrev pub lineRefusals : Line → Dispatcher → List ℕ → List Refusal
+lineRefusals l d buffer = 1 when IsUnsound d ∷ 14 when (IsLineKind (l .kind) → ⊥) ∷ 15 when IsLong (textOf l d) buffer ∷ []
+
+-- accepted: the text stands at the buffer's start, no other byte changes, and its length is returned; refused: length 0 and no byte changes
+pub record Stands (refusals : List Refusal) (text before after : List ℕ) (r : Written) : Type 0 where
+  pub answer : Answers refusals (numberOf (r .answer))
+  pub length-told : numberOf (r .answer) ≡ 0 → r .length ≡ length text
+  pub written : numberOf (r .answer) ≡ 0 → after ≡ text ++ drop (length text) before
+  pub nothing : numberOf (r .answer) ≢ 0 → r .length ≡ 0
+  pub kept : numberOf (r .answer) ≢ 0 → after ≡ before
+
+abbrev pub Writes : Line → Dispatcher → List ℕ → List ℕ → Written → Type 0
+Writes l d before after r = Stands (lineRefusals l d before) (textOf l d) before after r
+
+-- the line of a refused file
+abbrev pub WritesFault : ℕ → ℕ → List ℕ → List ℕ → Written → Type 0
+WritesFault n offset before after r = Stands (15 when IsLong (faultText n offset) before ∷ []) (faultText n offset) before after r

@@ -1,0 +1,69 @@
+-- Document 01, "Event file": what one line says, as text in ASCII.
+use Prim.Native.Nat.{ℕ}
+use mathlib.Core.Bool.{cond}
+use mathlib.Core.List.{List, [], _∷_, _++_, map}
+use lib.Dec.{eqb}
+use lib.ListN.{getD}
+use Rattle.decimals.specs.Decimal.{decimal}
+use Rattle.dispatcher.specs.Limits.{none}
+use Rattle.dispatcher.specs.Answers.{numberOf}
+use Rattle.dispatcher.specs.declared.Report.{Report}
+use Rattle.lines.specs.declared.Line.{Line}
+
+abbrev pub newline : ℕ
+newline = 10
+
+abbrev pub space : ℕ
+space = 32
+
+abbrev pub comma : ℕ
+comma = 44
+
+abbrev pub dash : ℕ
+dash = 45
+
+-- texts with a character between each and the next
+abbrev pub after : ℕ → List (List ℕ) → List ℕ
+after c [] = []
+after c (t ∷ ts) = c ∷ (t ++ after c ts)
+
+abbrev pub joined : ℕ → List (List ℕ) → List ℕ
+joined c [] = []
+joined c (t ∷ ts) = t ++ after c ts
+
+-- C, W, B or D for kinds 0 to 3
+abbrev pub letterOf : ℕ → ℕ
+letterOf kind = getD (67 ∷ 87 ∷ 66 ∷ 68 ∷ []) kind 0
+
+-- `-` for none
+unfoldable pub slotText : ℕ → List ℕ
+slotText slot = cond (eqb slot none) (dash ∷ []) (decimal slot)
+
+-- running number; letter; slot
+abbrev pub eventFields : Line → List (List ℕ)
+eventFields l = decimal (l .number) ∷ (letterOf (l .kind) ∷ []) ∷ decimal (l .slot) ∷ []
+
+-- answer; moves; started; stopped
+abbrev pub reportFields : Report → List (List ℕ)
+reportFields r = decimal (numberOf (r .answer)) ∷ decimal (r .moves) ∷ slotText (r .started) ∷ slotText (r .stopped) ∷ []
+
+abbrev pub fieldsOf : Line → List (List ℕ)
+fieldsOf l = eventFields l ++ reportFields (l .report)
+
+-- for each core the slot or `-`, joined by commas
+abbrev pub seatsText : List ℕ → List ℕ
+seatsText seats = joined comma (map slotText seats)
+
+-- fields one space apart, the seats last
+unfoldable pub lineText : Line → List ℕ → List ℕ
+lineText l seats = joined space (fieldsOf l ++ (seatsText seats ∷ [])) ++ (newline ∷ [])
+
+-- `refused N at OFFSET`
+abbrev pub refusedWord : List ℕ
+refusedWord = 114 ∷ 101 ∷ 102 ∷ 117 ∷ 115 ∷ 101 ∷ 100 ∷ []
+
+abbrev pub atWord : List ℕ
+atWord = 97 ∷ 116 ∷ []
+
+unfoldable pub faultText : ℕ → ℕ → List ℕ
+faultText n offset = joined space (refusedWord ∷ decimal n ∷ atWord ∷ decimal offset ∷ []) ++ (newline ∷ [])

@@ -1,0 +1,209 @@
+// Writes report lines as text into lent bytes.
+ghost use Prim.Native.Nat.{_+_, _≤_, _<_};
+ghost use mathlib.Core.Path.{_≡_};
+ghost use mathlib.Core.Logic.{_⊎_};
+ghost use mathlib.Core.List.{[], _∷_, _++_};
+ghost use lib.ListN.{length, take, drop};
+ghost use Rattle.decimals.specs.Decimal.{decimal};
+ghost use Rattle.decimals.specs.Put.{Puts};
+ghost use Rattle.dispatcher.specs.Limits.{LegalCount};
+ghost use Rattle.dispatcher.specs.Answers.{numberOf, _when_};
+ghost use Rattle.lines.specs.Text.{space, after, joined, letterOf, slotText, eventFields, reportFields, seatsText, lineText, faultText};
+ghost use Rattle.lines.specs.Line.{IsLineKind, IsLong, Stands, Writes, WritesFault};
+use dispatcher::Answer;
+use dispatcher::Dispatcher;
+use dispatcher::Report;
+
+// What a line says besides the seats. The kind is 0 to 3 for create, wake, block, delete.
+pub struct Line {
+    pub number: u32,
+    pub kind: u8,
+    pub slot: u16,
+    pub report: Report,
+}
+
+impl Line {
+    // No line has more bytes, its newline included, whatever its numbers are.
+    pub const LONGEST: usize = 231;
+}
+
+pub struct Written {
+    pub answer: Answer,
+    pub length: usize,
+}
+
+fn letter(kind: u8) -> u8
+    requires { ⌜ IsLineKind kind ⌝ }
+    ensures { λ r. ⌜ r ≡ letterOf kind ⌝ }
+{
+    if kind == 0 {
+        return b'C';
+    }
+    if kind == 1 {
+        return b'W';
+    }
+    if kind == 2 {
+        return b'B';
+    }
+    b'D'
+}
+
+fn put_byte(text: &mut [u8], at: usize, c: u8) -> usize
+    requires { ⌜ at < length (now text) ⌝ }
+    ensures { λ r. ⌜ Puts (c ∷ []) at (now (text .entry)) (now (text .exit)) r ⌝ }
+{
+    text[at] = c;
+    at + 1
+}
+
+// A space, and a number.
+fn put_number(text: &mut [u8], at: usize, n: u64) -> usize
+    requires { ⌜ at + length (space ∷ decimal n) ≤ length (now text) ⌝ }
+    ensures { λ r. ⌜ Puts (space ∷ decimal n) at (now (text .entry)) (now (text .exit)) r ⌝ }
+{
+    let next = put_byte(text, at, b' ');
+    decimals::put(text, next, n)
+}
+
+// A character, and a slot or `-`.
+fn put_slot(text: &mut [u8], at: usize, c: u8, slot: u16) -> usize
+    requires { ⌜ at + length (c ∷ slotText slot) ≤ length (now text) ⌝ }
+    ensures { λ r. ⌜ Puts (c ∷ slotText slot) at (now (text .entry)) (now (text .exit)) r ⌝ }
+{
+    let next = put_byte(text, at, c);
+    if slot == Dispatcher::NONE {
+        return put_byte(text, next, b'-');
+    }
+    decimals::put(text, next, slot as u64)
+}
+
+// A space, and the seats of the cores, joined by commas.
+fn put_seats(text: &mut [u8], at: usize, seats: [u16; Dispatcher::CORES], cores: usize) -> usize
+    requires { ⌜ LegalCount cores × (at + length (space ∷ seatsText (take cores seats)) ≤ length (now text)) ⌝ }
+    ensures { λ r. ⌜ Puts (space ∷ seatsText (take cores seats)) at (now (text .entry)) (now (text .exit)) r ⌝ }
+{
+    let mut next = put_slot(text, at, b' ', seats[0]);
+    let mut c: usize = 1;
+    while c < cores {
+        next = put_slot(text, next, b',', seats[c]);
+        c += 1;
+    }
+    next
+}
+
+// The event at the start of the text: running number, letter and slot.
+fn put_event(text: &mut [u8], line: Line) -> usize
+    requires { ⌜ IsLineKind (line .kind) × (length (joined space (eventFields line)) ≤ length (now text)) ⌝ }
+    ensures { λ r. ⌜ Puts (joined space (eventFields line)) 0 (now (text .entry)) (now (text .exit)) r ⌝ }
+{
+    let number = decimals::put(text, 0, line.number as u64);
+    let gap = put_byte(text, number, b' ');
+    let kind = put_byte(text, gap, letter(line.kind));
+    put_number(text, kind, line.slot as u64)
+}
+
+// Each field of the report after a space.
+fn put_report(text: &mut [u8], at: usize, report: Report) -> usize
+    requires { ⌜ at + length (after space (reportFields report)) ≤ length (now text) ⌝ }
+    ensures { λ r. ⌜ Puts (after space (reportFields report)) at (now (text .entry)) (now (text .exit)) r ⌝ }
+{
+    let given = report.answer;
+    let answer = put_number(text, at, given.number() as u64);
+    let moves = put_number(text, answer, report.moves as u64);
+    let started = put_slot(text, moves, b' ', report.started);
+    put_slot(text, started, b' ', report.stopped)
+}
+
+// A whole line at the start of the text.
+fn put_line(text: &mut [u8], line: Line, seats: [u16; Dispatcher::CORES], cores: usize) -> usize
+    requires { ⌜ IsLineKind (line .kind) × LegalCount cores × (length (lineText line (take cores seats)) ≤ length (now text)) ⌝ }
+    ensures { λ r. ⌜ Puts (lineText line (take cores seats)) 0 (now (text .entry)) (now (text .exit)) r ⌝ }
+{
+    let event = put_event(text, line);
+    let report = put_report(text, event, line.report);
+    let all = put_seats(text, report, seats, cores);
+    put_byte(text, all, b'\n')
+}
+
+// All of a text, or nothing where the room is too small.
+fn whole(size: usize, room: usize) -> usize
+    ensures { λ r. ⌜ ((r ≡ 0) × (room < size)) ⊎ ((r ≡ size) × (size ≤ room)) ⌝ }
+{
+    if room < size { 0 } else { size }
+}
+
+fn copy(text: &[u8], n: usize, buffer: &mut [u8])
+    requires { ⌜ (n ≤ length (now text)) × (n ≤ length (now buffer)) ⌝ }
+    ensures { λ _. ⌜ now (buffer .exit) ≡ take n (now (text .entry)) ++ drop n (now (buffer .entry)) ⌝ }
+{
+    let mut i: usize = 0;
+    while i < n {
+        buffer[i] = text[i];
+        i += 1;
+    }
+}
+
+// Hands the first bytes of a text over, all or none.
+fn hand_over(text: &[u8], size: usize, buffer: &mut [u8]) -> Written
+    requires { ⌜ (0 < size) × (size ≤ length (now text)) ⌝ }
+    ensures { λ r. ⌜ Stands (15 when IsLong (take size (now (text .entry))) (now (buffer .entry)) ∷ []) (take size (now (text .entry))) (now (buffer .entry)) (now (buffer .exit)) r ⌝ }
+{
+    let n = whole(size, buffer.len());
+    copy(text, n, buffer);
+    if n == 0 {
+        return Written {
+            answer: Answer::LineLong,
+            length: 0,
+        };
+    }
+    Written {
+        answer: Answer::Done,
+        length: n,
+    }
+}
+
+// One line, with the seats of the dispatcher.
+pub fn write(line: Line, d: Dispatcher, buffer: &mut [u8]) -> Written
+    ensures { λ r. ⌜ Writes line d (now (buffer .entry)) (now (buffer .exit)) r ⌝ }
+{
+    if !soundness::sound(d) {
+        return Written {
+            answer: Answer::NotSound,
+            length: 0,
+        };
+    }
+    if 3 < line.kind {
+        return Written {
+            answer: Answer::BadKind,
+            length: 0,
+        };
+    }
+    let mut text = [0u8; Line::LONGEST];
+    let seats = d.seats;
+    let cores = d.cores as usize;
+    let size = put_line(&mut text, line, seats, cores);
+    hand_over(&text, size, buffer)
+}
+
+fn put_fault(text: &mut [u8], number: u8, offset: usize) -> usize
+    requires { ⌜ length (faultText number offset) ≤ length (now text) ⌝ }
+    ensures { λ r. ⌜ Puts (faultText number offset) 0 (now (text .entry)) (now (text .exit)) r ⌝ }
+{
+    copy(b"refused", 7, text);
+    let answer = put_number(text, 7, number as u64);
+    let gap = put_byte(text, answer, b' ');
+    let a = put_byte(text, gap, b'a');
+    let t = put_byte(text, a, b't');
+    let place = put_number(text, t, offset as u64);
+    put_byte(text, place, b'\n')
+}
+
+// The one line of a refused file.
+pub fn write_fault(answer: Answer, offset: usize, buffer: &mut [u8]) -> Written
+    ensures { λ r. ⌜ WritesFault (numberOf answer) offset (now (buffer .entry)) (now (buffer .exit)) r ⌝ }
+{
+    // Room for any number and any offset.
+    let mut text = [0u8; 36];
+    let size = put_fault(&mut text, answer.number(), offset);
+    hand_over(&text, size, buffer)
+}
