@@ -1,5 +1,5 @@
 -- Document 01, "Event file": the calls that a file makes, one for each record and event, from 0 on: records become creates, then the events.
-use Prim.Native.Nat.{ℕ, _+_, _-_, _≤_}
+use Prim.Native.Nat.{ℕ, _-_, _≤_}
 use mathlib.Core.Bool.{cond}
 use mathlib.Core.List.{List}
 use lib.Dec.{eqb}

@@ -9,6 +9,7 @@ use native.Mathlib.Omega.{arith}
 use lib.ListN.{length, length-append}
 use borrow.Author.Tests.{lt-ltb, le-ltb}
 use Rattle.laws.specs.Lists.{In}
+use Rattle.laws.proofs.Lists.{in-append}
 use Rattle.decimals.specs.Decimal.{digit, spelled, decimal, valueAfter, value}
 
 -- any number of digits that is enough gives the same text
@@ -64,11 +65,6 @@ pub decimal-same : (m n : ℕ) → decimal m ≡ decimal n → m ≡ n
 decimal-same m n e = sym (value-decimal m) ∙ ap value e ∙ value-decimal n
 
 -- ---- its characters
-
-pub in-append : (c : ℕ) (s t : List ℕ) → In c (s ++ t) → In c s ⊎ In c t
-in-append c [] t i = inr i
-in-append c (a ∷ s) t (inl e) = inl (inl e)
-in-append c (a ∷ s) t (inr i) = elim (in-append c s t i) [ inl j ↦ inl (inr j) | inr j ↦ inr j ]
 
 pub decimal-digits : (n c : ℕ) → In c (decimal n) → (48 ≤ c) × (c ≤ 57)
 decimal-digits = by-digits

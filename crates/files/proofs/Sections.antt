@@ -7,10 +7,11 @@ use native.Mathlib.Numerals.{add-one}
 use native.Mathlib.Omega.{arith}
 use lib.ListN.{length, getD, drop, length-append, length-drop}
 use lib.Seq.{getD-append-add, getD-drop, drop-cons, drop-drop, ext-getD}
+use Rattle.laws.specs.Lists.{All}
 use Rattle.files.specs.Layout.{byte, lowestFirst, maskBytes, coreCount, recordCount, recordPlace, eventCount, eventPlace, endPlace}
 use Rattle.files.specs.Faults.{IsEventKind, WellFormed}
 use Rattle.files.specs.Reading.{ReadsRecord, ReadsEvent}
-use Rattle.files.specs.Day.{TaskRecord, Happening, Day, bytesOf, recordBytes, eventBytes, fileOf, FitsByte, Bytes, AllRecords, AllEvents, LegalDay}
+use Rattle.files.specs.Day.{TaskRecord, Happening, Day, bytesOf, recordBytes, eventBytes, fileOf, FitsByte, Bytes, LegalDay}
 use Rattle.files.specs.declared.FileRecord.the-variants.{Record}
 use Rattle.files.specs.declared.FileEvent.the-variants.{Event}
 
@@ -74,7 +75,7 @@ record-after : (before b : List ℕ) (o p : ℕ) → p ≡ length before + o →
 record-after before b o p e =
     rw (byte-after before b o p e, byte-after before b (o + 1) (p + 1) (omega arith), lowest-after maskBytes before b (o + 2) (p + 2) (omega arith)) refl
 
-record-at : (rs : List TaskRecord) (after : List ℕ) → AllRecords FitsRecord rs → (i : ℕ) → i < length rs → readRecord (recordBytes rs ++ after) (size * i) ≡ getD rs i noRecord
+record-at : (rs : List TaskRecord) (after : List ℕ) → All FitsRecord rs → (i : ℕ) → i < length rs → readRecord (recordBytes rs ++ after) (size * i) ≡ getD rs i noRecord
 record-at [] after f i l = absurd (omega arith)
 record-at (r ∷ rs) after f zero l =
     ap (λ (m : ℕ). record { slot = r .slot; priority = r .priority; mask = m }) (number-back maskBytes (r .mask) (r .slot ∷ r .priority ∷ []) (recordBytes rs ++ after) (f .0 .2))
@@ -92,7 +93,7 @@ record-there b s l = ap (λ (r : List ℕ). byte b 0 ∷ byte b 1 ∷ r) (bytes-
 record Records (n : ℕ) (b : List ℕ) : Type 0 where
   records : List TaskRecord
   many : length records ≡ n
-  fit : AllRecords FitsRecord records
+  fit : All FitsRecord records
   written : recordBytes records ++ drop (size * n) b ≡ b
 
 records-there : (n : ℕ) (b : List ℕ) → Bytes b → size * n ≤ length b → Records n b
@@ -130,7 +131,7 @@ event-at [] i l = absurd (omega arith)
 event-at (e ∷ es) zero l = refl
 event-at (e ∷ es) (suc i) l = event-after (eventBytes (e ∷ [])) (eventBytes es) (2 * i) (2 * suc i) (omega arith) ∙ event-at es i (omega arith)
 
-event-fits : (es : List Happening) → AllEvents FitsEvent es → (i : ℕ) → i < length es → FitsEvent (getD es i noEvent)
+event-fits : (es : List Happening) → All FitsEvent es → (i : ℕ) → i < length es → FitsEvent (getD es i noEvent)
 event-fits [] f i l = absurd (omega arith)
 event-fits (e ∷ es) f zero l = f .0
 event-fits (e ∷ es) f (suc i) l = event-fits es (f .1) i (omega arith)
@@ -143,7 +144,7 @@ events-long (e ∷ es) = omega (arith, events-long es)
 record Events (n : ℕ) (b : List ℕ) : Type 0 where
   events : List Happening
   many : length events ≡ n
-  fit : AllEvents FitsEvent events
+  fit : All FitsEvent events
   written : eventBytes events ≡ b
 
 events-there : (n : ℕ) (b : List ℕ) → Bytes b → length b ≡ 2 * n → ((i : ℕ) → i < n → IsEventKind (byte b (2 * i))) → Events n b
@@ -253,7 +254,7 @@ day-same {d} {e} L M same = λ j. record { cores = byte (same j) 0; records = re
 abbrev IsDay : List ℕ → Type 0
 IsDay b = (d : Day) × LegalDay d × (b ≡ fileOf d)
 
-front-day : (cores : ℕ) (rs : List TaskRecord) (rest : List ℕ) → AllRecords FitsRecord rs → FitsByte (length rs) → Bytes rest → WellFormed (front cores rs ++ rest) → IsDay (front cores rs ++ rest)
+front-day : (cores : ℕ) (rs : List TaskRecord) (rest : List ℕ) → All FitsRecord rs → FitsByte (length rs) → Bytes rest → WellFormed (front cores rs ++ rest) → IsDay (front cores rs ++ rest)
 front-day cores rs rest fit few bytes w = go (events-there (lowestFirst 2 rest 0) (drop 2 rest) (λ o. rw getD-drop (bytes (2 + o))) (simp length-drop (omega (arith, long))) kinds)
   where
     long : length rest ≡ 2 + 2 * lowestFirst 2 rest 0

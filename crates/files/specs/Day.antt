@@ -2,6 +2,7 @@
 use Prim.Native.Nat.{ℕ, zero, suc, _/_, _%_, _^_, _≤_, _<_}
 use mathlib.Core.List.{List, [], _∷_, _++_}
 use lib.ListN.{length}
+use Rattle.laws.specs.Lists.{All}
 use Rattle.dispatcher.specs.Limits.{eventLimit, LegalCount}
 use Rattle.files.specs.Layout.{byte, maskBytes}
 use Rattle.files.specs.Faults.{IsEventKind}
@@ -44,18 +45,10 @@ FitsByte n = n < 256
 abbrev pub Bytes : List ℕ → Type 0
 Bytes b = (o : ℕ) → FitsByte (byte b o)
 
-abbrev pub AllRecords : (TaskRecord → Type 0) → List TaskRecord → Type 0
-AllRecords P [] = Unit {0}
-AllRecords P (r ∷ rs) = P r × AllRecords P rs
-
-abbrev pub AllEvents : (Happening → Type 0) → List Happening → Type 0
-AllEvents P [] = Unit {0}
-AllEvents P (e ∷ es) = P e × AllEvents P es
-
 -- what a file can say: each field in its bytes, a legal core count, each kind an event's, and no more events than allowed
 pub record LegalDay (d : Day) : Type 0 where
   pub count : LegalCount (d .cores)
   pub many-records : FitsByte (length (d .records))
-  pub records : AllRecords (λ (r : TaskRecord). FitsByte (r .slot) × FitsByte (r .priority) × (r .mask < 256 ^ maskBytes)) (d .records)
+  pub records : All (λ (r : TaskRecord). FitsByte (r .slot) × FitsByte (r .priority) × (r .mask < 256 ^ maskBytes)) (d .records)
   pub many-events : length (d .events) ≤ eventLimit
-  pub events : AllEvents (λ (e : Happening). IsEventKind (e .kind) × FitsByte (e .slot)) (d .events)
+  pub events : All (λ (e : Happening). IsEventKind (e .kind) × FitsByte (e .slot)) (d .events)

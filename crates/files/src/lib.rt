@@ -1,9 +1,9 @@
 // Reads event files: the layout of a whole file or its first fault, and its records and events one by one.
 ghost use Prim.Native.Nat.{_+_, _*_, _≤_, _<_};
 ghost use mathlib.Core.Path.{_≡_};
-ghost use lib.ListN.{length};
+ghost use lib.ListN.{length, replicate};
 ghost use Rattle.laws.specs.Decides.{Decides};
-ghost use Rattle.files.specs.Layout.{lowestFirst};
+ghost use Rattle.files.specs.Layout.{lowestFirst, largestFile};
 ghost use Rattle.files.specs.Faults.{IsEventKind};
 ghost use Rattle.files.specs.Events.{HeadRead, FirstBad};
 ghost use Rattle.files.specs.Reading.{Reads, ReadsRecord, ReadsEvent};
@@ -46,6 +46,13 @@ const COUNT: usize = 2;
 
 // The bytes of an event: its kind and its slot.
 const EVENT: usize = 2;
+
+// Room for one byte more than any well-formed file has: so much decides every input, however long.
+pub fn room() -> [u8; LARGEST + 1]
+    ensures { λ r. ⌜ r ≡ replicate (largestFile + 1) 0 ⌝ }
+{
+    [0; LARGEST + 1]
+}
 
 // A number of two bytes, lowest first.
 fn pair(file: &[u8], at: usize) -> u32

@@ -1,9 +1,11 @@
--- Reading a list.
+-- Reading a list, and who stands in one.
 use Prim.Native.Nat.{ℕ, zero, suc, _≤_, _<_}
 use mathlib.Core.Path.{_≡_, refl}
-use mathlib.Core.List.{List, [], _∷_}
+use mathlib.Core.Logic.{_⊎_, inl, inr}
+use mathlib.Core.List.{List, [], _∷_, _++_}
 use native.Mathlib.Nat.{not-suc-le-zero, le-of-suc-le-suc}
 use lib.ListN.{length, getD}
+use Rattle.laws.specs.Lists.{In}
 
 -- below the length it does not matter what would stand beyond it
 pub getD-any : {A : Type 0} (l : List A) (i : ℕ) (a b : A) → i < length l → getD l i a ≡ getD l i b
@@ -16,3 +18,9 @@ pub getD-beyond : {A : Type 0} (l : List A) (i : ℕ) (a : A) → length l ≤ i
 getD-beyond [] i a h = refl
 getD-beyond (x ∷ l) zero a h = absurd (not-suc-le-zero h)
 getD-beyond (x ∷ l) (suc i) a h = getD-beyond l i a (le-of-suc-le-suc h)
+
+-- who stands in two lists, one after the other
+pub in-append : (c : ℕ) (s t : List ℕ) → In c (s ++ t) → In c s ⊎ In c t
+in-append c [] t i = inr i
+in-append c (a ∷ s) t (inl e) = inl (inl e)
+in-append c (a ∷ s) t (inr i) = elim (in-append c s t i) [ inl j ↦ inl (inr j) | inr j ↦ inr j ]

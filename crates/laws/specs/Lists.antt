@@ -1,4 +1,4 @@
--- Lists of numbers: who stands in one, that none stands in it twice, and the last of one that is not empty.
+-- Lists: who stands in one, that none stands in it twice, a claim on each, and the last of one that is not empty.
 use Prim.Native.Nat.{ℕ}
 use mathlib.Core.Path.{_≡_}
 use mathlib.Core.Logic.{_⊎_}
@@ -11,6 +11,11 @@ In a (b ∷ l) = (a ≡ b) ⊎ In a l
 abbrev pub Distinct : List ℕ → Type 0
 Distinct [] = Unit {0}
 Distinct (c ∷ p) = (In c p → ⊥) × Distinct p
+
+-- a claim holds of each of a list
+abbrev pub All : {A : Type 0} → (A → Type 0) → List A → Type 0
+All P [] = Unit {0}
+All P (x ∷ xs) = P x × All P xs
 
 -- the last of c ∷ p
 abbrev pub last : ℕ → List ℕ → ℕ

@@ -6,7 +6,6 @@ use mathlib.Core.Bool.{cond}
 use mathlib.Core.List.{List, [], _∷_, _++_, map, append-cancel-right}
 use native.Mathlib.Decide.{ℕ-discrete}
 use native.Mathlib.Omega.{arith}
-use borrow.Author.Tests.{eq-eqb, ne-eqb}
 use lib.Dec.{eqb}
 use lib.ListN.{length, length-append}
 use Rattle.laws.specs.Lists.{In}
@@ -17,6 +16,7 @@ use Rattle.dispatcher.proofs.Same.{number-same}
 use Rattle.lines.specs.declared.Line.{Line}
 use Rattle.lines.specs.Text.{space, comma, dash, joined, letterOf, slotText, fieldsOf, seatsText, lineText, refusedWord, atWord, faultText}
 use Rattle.lines.specs.Line.{IsLineKind}
+use Rattle.lines.proofs.Parts.{slot-dash, slot-number}
 use Rattle.lines.proofs.Joining.{Without, EachWithout, cut, joined-same, joined-without}
 
 -- ---- a kind's letter
@@ -48,8 +48,7 @@ abbrev DashOrNumber : ℕ → Type 0
 DashOrNumber s = ((s ≡ none) × (slotText s ≡ dash ∷ [])) ⊎ (slotText s ≡ decimal s)
 
 dash-or-number : (s : ℕ) → DashOrNumber s
-unfolding slotText
-dash-or-number s = elim (ℕ-discrete s none) [ yes e ↦ inl (e, rw (eq-eqb s none e)) | no n ↦ inr (rw (ne-eqb s none n)) ]
+dash-or-number s = elim (ℕ-discrete s none) [ yes e ↦ inl (e, slot-dash s e) | no n ↦ inr (slot-number s n) ]
 
 slot-some : (s : ℕ) → 1 ≤ length (slotText s)
 slot-some s = elim (dash-or-number s) [ inl h ↦ rw (h .1) (omega arith) | inr h ↦ rw h (decimal-some s) ]

@@ -3,16 +3,15 @@ use Prim.Native.Nat.{ℕ}
 use mathlib.Core.Path.{_≡_, refl, sym, _∙_}
 use mathlib.Core.Logic.{_≢_, inl, inr}
 use mathlib.Core.List.{List, [], _∷_, _++_, append-nil}
-use Rattle.laws.specs.Lists.{In}
-use Rattle.decimals.proofs.Spelling.{in-append}
+use Rattle.laws.specs.Lists.{In, All}
+use Rattle.laws.proofs.Lists.{in-append}
 use Rattle.lines.specs.Text.{after, joined}
 
 abbrev pub Without : ℕ → List ℕ → Type 0
 Without c t = In c t → ⊥
 
 abbrev pub EachWithout : ℕ → List (List ℕ) → Type 0
-EachWithout c [] = Unit {0}
-EachWithout c (t ∷ ts) = Without c t × EachWithout c ts
+EachWithout c ts = All (Without c) ts
 
 -- a character that stands in neither text parts what comes before it from what comes after it
 pub cut : (c : ℕ) (x y x′ y′ : List ℕ) → Without c x → Without c y → x ++ (c ∷ x′) ≡ y ++ (c ∷ y′) → (x ≡ y) × (x′ ≡ y′)

@@ -91,8 +91,7 @@ fn print(file: &[u8]) {
 }
 
 fn main() {
-    // One byte more than any well-formed file has: so much decides every input.
-    let mut file = [0u8; files::LARGEST + 1];
+    let mut file = files::room();
     match read_input(&mut file) {
         Input::Bytes(n) => print(&file[..n]),
         Input::Failed => os::fail(b"standard input"),

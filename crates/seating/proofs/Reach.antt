@@ -8,6 +8,7 @@ use native.Mathlib.Omega.{arith}
 use lib.Dec.{eqb, ltb, ltb→lt, lt→ltb}
 use Rattle.laws.proofs.Counting.{any-find, any-true, count-le, count-without, find, in-dec, last-in, without, without-other}
 use Rattle.laws.proofs.Deciding.{cases, clash}
+use Rattle.laws.proofs.Lists.{in-append}
 use Rattle.laws.proofs.Testing.{T-true, and-both, both-and, eqb-eq, eqb-false, eqb-ne, eqb-true, not-false, not-true, or-cases, or-left, or-right, true-T}
 use Rattle.laws.specs.Counting.{anyBelow, bit, count}
 use Rattle.laws.specs.Lists.{Distinct, In, last}
@@ -56,10 +57,7 @@ module _ (n e : ℕ) (may : ℕ → ℕ → Bool) (s : ℕ → ℕ) where
   links-snoc c (b ∷ p) d l h m = (l .0, l .1, links-snoc b p d (l .2) h m)
 
 pub in-snoc : (p : List ℕ) (d a : ℕ) → In a (p ++ (d ∷ [])) → In a p ⊎ (a ≡ d)
-in-snoc [] d a (inl i) = inr i
-in-snoc [] d a (inr i) = absurd i
-in-snoc (b ∷ p) d a (inl i) = inl (inl i)
-in-snoc (b ∷ p) d a (inr i) = elim (in-snoc p d a i) [ inl j ↦ inl (inr j) | inr j ↦ inr j ]
+in-snoc p d a i = elim (in-append a p (d ∷ []) i) [ inl j ↦ inl j | inr j ↦ elim j [ inl e ↦ inr e | inr n ↦ absurd n ] ]
 
 pub distinct-snoc : (p : List ℕ) (d : ℕ) → Distinct p → (In d p → ⊥) → Distinct (p ++ (d ∷ []))
 distinct-snoc [] d u h = (λ i. i, tt)

@@ -84,7 +84,7 @@ fn same_lines(file: &[u8], stored: i32) -> bool {
 
 // Whether the event file prints the stored lines and no more.
 fn is_same(day: i32, stored: i32) -> bool {
-    let mut file = [0u8; files::LARGEST + 1];
+    let mut file = files::room();
     let n = io::read_full(day, &mut file);
     if !same_lines(&file[..n], stored) {
         return false;

@@ -5,6 +5,9 @@ use Rattle.replay.specs.Input.{Within}
 use Rattle.replay.proofs.main.Statement.{statement}
 use Rattle.replay.proofs.main.Tie as tie
 
+room-requires : tie.Need-room-requires
+room-requires c κs = search needs
+
 slice-aggregate-read-input : tie.Need-slice-aggregate-read-input
 slice-aggregate-read-input c = search needs
 
@@ -42,6 +45,7 @@ pub main-spec : {M : Type 1} → statement M
 main-spec =
     tie.close
     (tie.spec
+    room-requires
     slice-aggregate-read-input
     read-input-requires
     enum-known-n
