@@ -1,5 +1,6 @@
 -- `told` meets its promise: the line is that of `lines::write`, and its answer decides which dispatcher stays.
-use mathlib.Core.Path.{refl, sym, _∙_}
+use mathlib.Core.Path.{refl}
+use native.Mathlib.Omega.{arith}
 use borrow.Author.Needs.{needs}
 use Rattle.days.proofs.told.Statement.{statement}
 use Rattle.days.proofs.told.Tie as tie
@@ -24,7 +25,7 @@ returns c =
     let w = c .before .before .before .before .write in
     record {
       line-written = w .ensures;
-      next = λ z. absurd (c .if1 .taken (c .before .number .ensures ∙ z));
+      next = λ z. absurd (omega (arith, c .if1 .taken, c .before .number .ensures, z));
       kept = λ _. refl;
     }
 
@@ -37,7 +38,7 @@ returns-2 c =
     record {
       line-written = w .ensures;
       next = λ _. refl;
-      kept = λ n. absurd (n (sym (c .before .number .ensures) ∙ c .if1 .left));
+      kept = λ n. absurd (omega (arith, c .if1 .left, c .before .number .ensures, n));
     }
 
 pub told-spec : {M : Type 1} → statement M
