@@ -82,7 +82,7 @@ steps-same (inl x) (inr y) = absurd (y .none (x .call) (x .at))
 steps-same (inr x) (inl y) = absurd (x .none (y .call) (y .at))
 steps-same {r} {q} (inr x) (inr y) =
     let answer = number-same {a = r .written .answer} {b = q .written .answer} (x .answer ∙ sym (y .answer)) in
-    (stepped-same (λ i. record { answer = answer i; length = (x .length ∙ sym (y .length)) i }) (x .kept ∙ sym (y .kept)), x .bytes ∙ sym (y .bytes))
+    (stepped-same (λ i. record { answer = answer i; length = (x .nothing ∙ sym (y .nothing)) i }) (x .kept ∙ sym (y .kept)), x .bytes ∙ sym (y .bytes))
 
 -- ---- the lines
 

@@ -57,7 +57,7 @@ accepted {b} {k} {d} {before} {after} {r} (inl t) some = go (ℕ-discrete (numbe
           fits = by-dec (decLe (length line) (length before)) (λ n. none-applies (w .answer) z 15 (inr (inr (inl (refl, omega (arith, n))))));
           next = t .told .next z;
         }
-accepted (inr e) some = absurd (some (e .length))
+accepted (inr e) some = absurd (some (e .nothing))
 
 -- a step that writes nothing leaves the room as it was
 pub nothing-kept : {b : List ℕ} {k : ℕ} {d : Dispatcher} {before after : List ℕ} {r : Stepped} → Steps b k d before after r

@@ -50,7 +50,7 @@ pub record Tells (b : List ℕ) (k : ℕ) (d : Dispatcher) (before after : List 
 pub record Ended (b : List ℕ) (k : ℕ) (d : Dispatcher) (before after : List ℕ) (r : Stepped) : Type 0 where
   pub none : HasNoCall b k
   pub answer : numberOf (r .written .answer) ≡ 0
-  pub length : r .written .length ≡ 0
+  pub nothing : r .written .length ≡ 0
   pub bytes : after ≡ before
   pub kept : r .dispatcher ≡ d
 

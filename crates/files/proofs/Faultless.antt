@@ -1,6 +1,6 @@
 -- A file is well formed exactly when it has no fault: each fault denies one demand on a well-formed file, and each demand can be tested.
 use Prim.Native.Nat.{ℕ, _≤_, _<_}
-use mathlib.Core.Path.{refl}
+use mathlib.Core.Path.{_≡_, refl}
 use mathlib.Core.Logic.{inl, inr}
 use mathlib.Core.List.{List}
 use native.Mathlib.Decide.{decLe, decLt}
@@ -8,9 +8,12 @@ use native.Mathlib.Omega.{arith}
 use lib.ListN.{length}
 use Rattle.dispatcher.specs.Limits.{eventLimit}
 use Rattle.dispatcher.specs.Answers.{Applies}
-use Rattle.files.specs.Layout.{eventCount, eventPlace, endPlace}
+use Rattle.files.specs.Layout.{coreCount, recordCount, eventCount, eventPlace, endPlace}
 use Rattle.files.specs.Faults.{WellFormed, faultsAt}
-use Rattle.files.proofs.Same.{no-fault}
+use Rattle.files.specs.Reading.{Reads}
+use Rattle.files.specs.declared.Reading.{Reading}
+use Rattle.files.specs.declared.Reading.the-variants.{Layout}
+use Rattle.files.proofs.Same.{no-fault, reads-same}
 
 pub well-formed-faultless : (b : List ℕ) → WellFormed b → (m p : ℕ) → Applies (faultsAt b p) m → ⊥
 well-formed-faultless b w = no-fault w
@@ -38,3 +41,11 @@ faultless-well-formed b none = go (decLt (length b) (endPlace b)) (decLt (endPla
           kinds = λ i c. within (λ bad. none 14 (eventPlace b i) (inr (inr (inr (inl (refl, record { event = i; counted = c; at = refl; there = omega arith; bad = bad }))))));
           whole = omega arith;
         }
+
+-- ---- the reader accepts exactly the well-formed files
+
+pub accepted-well-formed : (b : List ℕ) (cores records events : ℕ) → Reads b (Layout cores records events) → WellFormed b
+accepted-well-formed b cores records events h = h .0
+
+pub well-formed-accepted : (b : List ℕ) (r : Reading) → WellFormed b → Reads b r → r ≡ Layout (coreCount b) (recordCount b) (eventCount b)
+well-formed-accepted b r w h = reads-same b r (Layout (coreCount b) (recordCount b) (eventCount b)) h (w, refl, refl, refl)

@@ -5,7 +5,7 @@ use mathlib.Core.Logic.{_≢_, inl, inr}
 use mathlib.Core.List.{List, [], _∷_, _++_, append-nil}
 use Rattle.laws.specs.Lists.{In, All}
 use Rattle.laws.proofs.Lists.{in-append}
-use Rattle.lines.specs.Text.{after, joined}
+use Rattle.lines.specs.Text.{eachAfter, joined}
 
 abbrev pub Without : ℕ → List ℕ → Type 0
 Without c t = In c t → ⊥
@@ -39,11 +39,11 @@ joined-same c t u (x ∷ ts) (y ∷ us) v w e =
 
 -- ---- no other character comes in by the joining
 
-after-without : (c d : ℕ) (ts : List (List ℕ)) → c ≢ d → EachWithout c ts → Without c (after d ts)
-after-without c d [] n w i = i
-after-without c d (t ∷ ts) n w (inl e) = n e
-after-without c d (t ∷ ts) n w (inr i) = elim (in-append c t (after d ts) i) [ inl j ↦ w .0 j | inr j ↦ after-without c d ts n (w .1) j ]
+each-without : (c d : ℕ) (ts : List (List ℕ)) → c ≢ d → EachWithout c ts → Without c (eachAfter d ts)
+each-without c d [] n w i = i
+each-without c d (t ∷ ts) n w (inl e) = n e
+each-without c d (t ∷ ts) n w (inr i) = elim (in-append c t (eachAfter d ts) i) [ inl j ↦ w .0 j | inr j ↦ each-without c d ts n (w .1) j ]
 
 pub joined-without : (c d : ℕ) (ts : List (List ℕ)) → c ≢ d → EachWithout c ts → Without c (joined d ts)
 joined-without c d [] n w i = i
-joined-without c d (t ∷ ts) n w i = after-without c d (t ∷ ts) n w (inr i)
+joined-without c d (t ∷ ts) n w i = each-without c d (t ∷ ts) n w (inr i)

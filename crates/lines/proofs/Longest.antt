@@ -16,7 +16,7 @@ use Rattle.dispatcher.specs.declared.Answer.{Answer}
 use Rattle.dispatcher.specs.declared.Answer.the-variants.{Done, NotSound, CoreCount, SlotAbove, SlotInUse, SlotEmpty, PriorityZero, MaskEmpty, MissingCore, AlreadyReady, NotReady, StillReady, FileShort, BytesAfter, BadKind, LineLong, EventCount}
 use Rattle.dispatcher.specs.declared.Dispatcher.{Dispatcher}
 use Rattle.lines.specs.declared.Line.{Line}
-use Rattle.lines.specs.Text.{space, comma, after, slotText, seatsText, faultText}
+use Rattle.lines.specs.Text.{space, comma, eachAfter, slotText, seatsText, faultText}
 use Rattle.lines.specs.Line.{textOf}
 use Rattle.lines.proofs.Parts.{slot-dash, slot-number, line-length, event-length, report-length, fault-length}
 
@@ -48,11 +48,11 @@ slot-longest k slot p l = go (ℕ-discrete slot none)
     go (no e) = rw (slot-number slot e) (decimal-length k slot p l)
 
 -- a character and five digits for each
-commas-longest : (xs : List ℕ) → ((c : ℕ) → c < length xs → getD xs c 0 < 10 ^ 5) → length (after comma (map slotText xs)) ≤ 6 * length xs
+commas-longest : (xs : List ℕ) → ((c : ℕ) → c < length xs → getD xs c 0 < 10 ^ 5) → length (eachAfter comma (map slotText xs)) ≤ 6 * length xs
 commas-longest [] small = omega arith
 commas-longest (x ∷ xs) small =
     let rest = commas-longest xs (λ c l. small (suc c) (omega arith)) in
-    omega (arith, slot-longest 5 x (omega arith) (small 0 (omega arith)), length-append (slotText x) (after comma (map slotText xs)))
+    omega (arith, slot-longest 5 x (omega arith) (small 0 (omega arith)), length-append (slotText x) (eachAfter comma (map slotText xs)))
 
 seats-longest : (xs : List ℕ) → length xs ≤ 32 → ((c : ℕ) → c < length xs → getD xs c 0 < 10 ^ 5) → length (space ∷ seatsText xs) ≤ 192
 seats-longest [] many small = omega arith

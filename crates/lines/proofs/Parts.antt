@@ -11,7 +11,7 @@ use Rattle.dispatcher.specs.Limits.{none}
 use Rattle.dispatcher.specs.Answers.{numberOf}
 use Rattle.dispatcher.specs.declared.Report.{Report}
 use Rattle.lines.specs.declared.Line.{Line}
-use Rattle.lines.specs.Text.{space, newline, dash, after, joined, eventFields, reportFields, slotText, seatsText, lineText, refusedWord, atWord, faultText}
+use Rattle.lines.specs.Text.{space, newline, dash, eachAfter, joined, eventFields, reportFields, slotText, seatsText, lineText, refusedWord, atWord, faultText}
 
 pub slot-dash : (slot : ℕ) → slot ≡ none → slotText slot ≡ dash ∷ []
 unfolding slotText
@@ -26,11 +26,11 @@ event-length l = simp (length-append, append-nil) (omega arith)
 
 -- with the answer's number under any name
 pub report-length : (r : Report) {n : ℕ} → n ≡ numberOf (r .answer)
-    → length (after space (reportFields r)) ≡ 4 + (length (decimal n) + (length (decimal (r .moves)) + (length (slotText (r .started)) + length (slotText (r .stopped)))))
+    → length (eachAfter space (reportFields r)) ≡ 4 + (length (decimal n) + (length (decimal (r .moves)) + (length (slotText (r .started)) + length (slotText (r .stopped)))))
 report-length r e = rw e (simp (length-append, append-nil) (omega arith))
 
 pub line-pieces : (l : Line) (seats : List ℕ)
-    → lineText l seats ≡ joined space (eventFields l) ++ (after space (reportFields (l .report)) ++ ((space ∷ seatsText seats) ++ (newline ∷ [])))
+    → lineText l seats ≡ joined space (eventFields l) ++ (eachAfter space (reportFields (l .report)) ++ ((space ∷ seatsText seats) ++ (newline ∷ [])))
 unfolding lineText
 line-pieces l seats = simp (append-assoc, append-nil)
 
@@ -38,8 +38,8 @@ four-length : (a b c d : List ℕ) → length (a ++ (b ++ (c ++ d))) ≡ length 
 four-length a b c d = simp length-append
 
 pub line-length : (l : Line) (seats : List ℕ)
-    → length (lineText l seats) ≡ length (joined space (eventFields l)) + (length (after space (reportFields (l .report))) + (length (space ∷ seatsText seats) + 1))
-line-length l seats = ap length (line-pieces l seats) ∙ four-length (joined space (eventFields l)) (after space (reportFields (l .report))) (space ∷ seatsText seats) (newline ∷ [])
+    → length (lineText l seats) ≡ length (joined space (eventFields l)) + (length (eachAfter space (reportFields (l .report))) + (length (space ∷ seatsText seats) + 1))
+line-length l seats = ap length (line-pieces l seats) ∙ four-length (joined space (eventFields l)) (eachAfter space (reportFields (l .report))) (space ∷ seatsText seats) (newline ∷ [])
 
 pub fault-pieces : (n offset : ℕ) → faultText n offset ≡ refusedWord ++ ((space ∷ decimal n) ++ ((space ∷ atWord) ++ ((space ∷ decimal offset) ++ (newline ∷ []))))
 unfolding faultText

@@ -8,7 +8,7 @@ use lib.ListN.{length, take, drop, take-append-drop, length-append}
 use lib.Seq.{take-at}
 use Rattle.decimals.specs.Put.{putAt, Puts}
 use Rattle.decimals.proofs.Putting.{puts-room, puts-then}
-use Rattle.lines.specs.Text.{after}
+use Rattle.lines.specs.Text.{eachAfter}
 
 pub puts-none : (x : List ℕ) (at : ℕ) → Puts [] at x x at
 unfolding putAt
@@ -33,5 +33,5 @@ pub puts-piece : {a b : List ℕ} {at m r : ℕ} {x y z : List ℕ} → Puts a a
 puts-piece {a} {b} p q room = puts-then p (q (room-left p b room)) (omega (arith, length-append a b))
 
 -- the last of texts that stand each after a character
-pub puts-last : {c at r : ℕ} {t x y : List ℕ} → Puts (c ∷ t) at x y r → Puts (after c (t ∷ [])) at x y r
+pub puts-last : {c at r : ℕ} {t x y : List ℕ} → Puts (c ∷ t) at x y r → Puts (eachAfter c (t ∷ [])) at x y r
 puts-last {t = t} p = rw (append-nil t) p

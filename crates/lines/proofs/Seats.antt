@@ -7,17 +7,17 @@ use native.Mathlib.Omega.{arith}
 use lib.ListN.{length, take, drop, getD, length-append, take-append-drop}
 use lib.Seq.{length-take-le, drop-append-le, take-take, slice, slice-cons, slice-empty}
 use Rattle.decimals.specs.Put.{Puts}
-use Rattle.lines.specs.Text.{space, comma, after, slotText, seatsText}
+use Rattle.lines.specs.Text.{space, comma, eachAfter, slotText, seatsText}
 use Rattle.decimals.proofs.Putting.{puts-length, puts-then}
 use Rattle.lines.proofs.Pieces.{puts-none, room-left, puts-piece}
 
 -- the seats from one core up to another, each behind a comma
 unfoldable pub commas : List ℕ → ℕ → ℕ → List ℕ
-commas seats from to = after comma (map slotText (slice from to seats))
+commas seats from to = eachAfter comma (map slotText (slice from to seats))
 
-after-append : (xs ys : List ℕ) → after comma (map slotText (xs ++ ys)) ≡ after comma (map slotText xs) ++ after comma (map slotText ys)
-after-append [] ys = refl
-after-append (x ∷ xs) ys = rw (after-append xs ys, append-assoc)
+each-append : (xs ys : List ℕ) → eachAfter comma (map slotText (xs ++ ys)) ≡ eachAfter comma (map slotText xs) ++ eachAfter comma (map slotText ys)
+each-append [] ys = refl
+each-append (x ∷ xs) ys = rw (each-append xs ys, append-assoc)
 
 module _ (seats : List ℕ) where
   slice-split : (f c n : ℕ) → f ≤ c → c ≤ n → c ≤ length seats → slice f n seats ≡ slice f c seats ++ slice c n seats
@@ -27,7 +27,7 @@ module _ (seats : List ℕ) where
 
   commas-split : (c n : ℕ) → 1 ≤ c → c ≤ n → c ≤ length seats → commas seats 1 n ≡ commas seats 1 c ++ commas seats c n
   unfolding commas
-  commas-split c n a b l = rw (slice-split 1 c n a b l) (after-append (slice 1 c seats) (slice c n seats))
+  commas-split c n a b l = rw (slice-split 1 c n a b l) (each-append (slice 1 c seats) (slice c n seats))
 
   commas-first : (c n : ℕ) → c < n → n ≤ length seats → commas seats c n ≡ (comma ∷ slotText (getD seats c 0)) ++ commas seats (c + 1) n
   unfolding commas

@@ -22,14 +22,15 @@ comma = 44
 abbrev pub dash : ℕ
 dash = 45
 
--- texts with a character between each and the next
-abbrev pub after : ℕ → List (List ℕ) → List ℕ
-after c [] = []
-after c (t ∷ ts) = c ∷ (t ++ after c ts)
+-- each text after a character
+abbrev pub eachAfter : ℕ → List (List ℕ) → List ℕ
+eachAfter c [] = []
+eachAfter c (t ∷ ts) = c ∷ (t ++ eachAfter c ts)
 
+-- texts with a character between each and the next
 abbrev pub joined : ℕ → List (List ℕ) → List ℕ
 joined c [] = []
-joined c (t ∷ ts) = t ++ after c ts
+joined c (t ∷ ts) = t ++ eachAfter c ts
 
 -- C, W, B or D for kinds 0 to 3
 abbrev pub letterOf : ℕ → ℕ

@@ -8,7 +8,7 @@ ghost use Rattle.decimals.specs.Decimal.{decimal};
 ghost use Rattle.decimals.specs.Put.{Puts};
 ghost use Rattle.dispatcher.specs.Limits.{LegalCount};
 ghost use Rattle.dispatcher.specs.Answers.{numberOf, _when_};
-ghost use Rattle.lines.specs.Text.{space, after, joined, letterOf, slotText, eventFields, reportFields, seatsText, lineText, faultText};
+ghost use Rattle.lines.specs.Text.{space, eachAfter, joined, letterOf, slotText, eventFields, reportFields, seatsText, lineText, faultText};
 ghost use Rattle.lines.specs.Line.{IsLineKind, IsLong, Stands, Writes, WritesFault};
 use dispatcher::Answer;
 use dispatcher::Dispatcher;
@@ -104,8 +104,8 @@ fn put_event(text: &mut [u8], line: Line) -> usize
 
 // Each field of the report after a space.
 fn put_report(text: &mut [u8], at: usize, report: Report) -> usize
-    requires { ⌜ at + length (after space (reportFields report)) ≤ length (now text) ⌝ }
-    ensures { λ r. ⌜ Puts (after space (reportFields report)) at (now (text .entry)) (now (text .exit)) r ⌝ }
+    requires { ⌜ at + length (eachAfter space (reportFields report)) ≤ length (now text) ⌝ }
+    ensures { λ r. ⌜ Puts (eachAfter space (reportFields report)) at (now (text .entry)) (now (text .exit)) r ⌝ }
 {
     let given = report.answer;
     let answer = put_number(text, at, given.number() as u64);

@@ -106,7 +106,7 @@ returns-4 c =
 returns-5 : tie.Need-returns-5
 returns-5 c =
     let e = c .before .before .before .before .before .args in
-    inr (record { none = subst (ReadsCall (now (e .file)) (e .k)) (c .enum-told .given .1) (c .before .before .call .ensures); answer = refl; length = refl; bytes = refl; kept = refl })
+    inr (record { none = subst (ReadsCall (now (e .file)) (e .k)) (c .enum-told .given .1) (c .before .before .call .ensures); answer = refl; nothing = refl; bytes = refl; kept = refl })
 
 pub step-spec : {M : Type 1} → statement M
 step-spec =
