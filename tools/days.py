@@ -5,15 +5,17 @@ They keep a vector true to its purpose, whatever program writes the rest.
 """
 
 from collections import namedtuple
+from pathlib import Path
 
 from dice import Dice
 from paper import LISTING_INPUT, LISTING_LINES
 from reference import BLOCK, DELETE, WAKE, Day, Event, Record
-from sheet import encode, pack
+from sheet import encode, pack, quoted
 
 Vector = namedtuple("Vector", "name data shows")
 
 LISTING = bytes.fromhex(LISTING_INPUT)
+EXAMPLES = Path(__file__).resolve().parent.parent / "examples"
 
 
 def sheet(name, text, *shows):
@@ -716,6 +718,12 @@ def random_vectors():
     return vectors
 
 
+def examples():
+    """The days in examples/, with the lines that they quote."""
+    return [sheet(f"example-{path.stem}", path.read_text(), *quoted(path.read_text()))
+            for path in sorted(EXAMPLES.glob("*.txt"))]
+
+
 def all_vectors():
     return (
         layout_vectors()
@@ -727,4 +735,5 @@ def all_vectors():
         + tie_vectors()
         + block_vectors()
         + random_vectors()
+        + examples()
     )

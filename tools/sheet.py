@@ -207,6 +207,12 @@ def unpack(data, hexadecimal=False):
 # What the two commands share.
 
 
+def quoted(text):
+    """The lines that a sheet quotes after `#>`: what the replay prints."""
+    return [line.split("#>", 1)[1].strip()
+            for line in text.splitlines() if "#>" in line and not line.startswith("#")]
+
+
 def read_file(path, read):
     """What `read` makes of the named file, or of standard input without a name."""
     try:

@@ -8,7 +8,7 @@ from pathlib import Path
 sys.dont_write_bytecode = True
 
 from reference import replay
-from sheet import pack
+from sheet import pack, quoted
 
 EXAMPLES = sorted((Path(__file__).resolve().parent.parent / "examples").glob("*.txt"))
 
@@ -20,10 +20,8 @@ class Examples(unittest.TestCase):
     def test_quoted_lines(self):
         for path in EXAMPLES:
             text = path.read_text()
-            quoted = [line.split("#>", 1)[1].strip()
-                      for line in text.splitlines() if "#>" in line and not line.startswith("#")]
             with self.subTest(example=path.name):
-                self.assertEqual(quoted, replay(pack(text)))
+                self.assertEqual(quoted(text), replay(pack(text)))
 
 
 if __name__ == "__main__":

@@ -25,6 +25,9 @@ pub struct Line {
 impl Line {
     // No line has more bytes, its newline included, whatever its numbers are.
     pub const LONGEST: usize = 231;
+
+    // No line of a refused file has more.
+    pub const LONGEST_FAULT: usize = 36;
 }
 
 pub struct Written {
@@ -202,8 +205,7 @@ fn put_fault(text: &mut [u8], number: u8, offset: usize) -> usize
 pub fn write_fault(answer: Answer, offset: usize, buffer: &mut [u8]) -> Written
     ensures { λ r. ⌜ WritesFault (numberOf answer) offset (now (buffer .entry)) (now (buffer .exit)) r ⌝ }
 {
-    // Room for any number and any offset.
-    let mut text = [0u8; 36];
+    let mut text = [0u8; Line::LONGEST_FAULT];
     let size = put_fault(&mut text, answer.number(), offset);
     hand_over(&text, size, buffer)
 }

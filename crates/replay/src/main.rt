@@ -5,6 +5,7 @@ use dispatcher::Dispatcher;
 use files::Reading;
 use libc::STDIN_FILENO;
 use libc::STDOUT_FILENO;
+use lines::Line;
 
 // What came on standard input, or that a read failed.
 enum Input {
@@ -71,7 +72,7 @@ fn print_day(file: &[u8], cores: u8, calls: usize) {
 }
 
 fn print_fault(answer: Answer, offset: usize) {
-    let mut line = [0u8; 36];
+    let mut line = [0u8; Line::LONGEST_FAULT];
     let w = lines::write_fault(answer, offset, &mut line);
     let length = w.length;
     if !io::write_all(STDOUT_FILENO, &line[..length]) {

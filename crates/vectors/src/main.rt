@@ -3,6 +3,7 @@ use dispatcher::Answer;
 use dispatcher::Dispatcher;
 use files::Reading;
 use libc::STDOUT_FILENO;
+use lines::Line;
 
 // Whether as many stored bytes as there is room for are this text.
 fn same_next(stored: i32, text: &[u8], room: &mut [u8]) -> bool {
@@ -65,7 +66,7 @@ fn same_day(file: &[u8], cores: u8, calls: usize, stored: i32) -> bool {
 }
 
 fn same_fault(answer: Answer, offset: usize, stored: i32) -> bool {
-    let mut line = [0u8; 36];
+    let mut line = [0u8; Line::LONGEST_FAULT];
     let w = lines::write_fault(answer, offset, &mut line);
     let length = w.length;
     goes_on(stored, &line[..length])
@@ -82,8 +83,14 @@ fn same_lines(file: &[u8], stored: i32) -> bool {
     }
 }
 
-// Whether the event file prints the stored lines and no more.
+// Whether the event file prints the stored lines and no more; not so where either can't be opened.
 fn is_same(day: i32, stored: i32) -> bool {
+    if day < 0 {
+        return false;
+    }
+    if stored < 0 {
+        return false;
+    }
     let mut file = files::room();
     let n = io::read_full(day, &mut file);
     if !same_lines(&file[..n], stored) {
