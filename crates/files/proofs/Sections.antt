@@ -11,7 +11,7 @@ use Rattle.laws.specs.Lists.{All}
 use Rattle.files.specs.Layout.{byte, lowestFirst, maskBytes, coreCount, recordCount, recordPlace, eventCount, eventPlace, endPlace}
 use Rattle.files.specs.Faults.{IsEventKind, WellFormed}
 use Rattle.files.specs.Reading.{ReadsRecord, ReadsEvent}
-use Rattle.files.specs.Day.{TaskRecord, Happening, Day, bytesOf, recordBytes, eventBytes, fileOf, FitsByte, Bytes, LegalDay}
+use Rattle.files.specs.Day.{TaskRecord, Happening, Day, bytesOf, recordBytes, eventBytes, fileOf, FitsByte, Bytes, FitsRecord, FitsEvent, noRecord, noEvent, LegalDay}
 use Rattle.files.specs.declared.FileRecord.the-variants.{Record}
 use Rattle.files.specs.declared.FileEvent.the-variants.{Event}
 
@@ -58,18 +58,12 @@ lowest-small (suc k) b o s = rw (pow-suc 256 k) (omega (arith, s o, lowest-small
 
 -- ---- the records
 
-abbrev pub noRecord : TaskRecord
-noRecord = record { slot = 0; priority = 0; mask = 0 }
-
 abbrev size : ℕ
 size = 2 + maskBytes
 
 -- the record that stands from o on
 abbrev readRecord : List ℕ → ℕ → TaskRecord
 readRecord b o = record { slot = byte b o; priority = byte b (o + 1); mask = lowestFirst maskBytes b (o + 2) }
-
-abbrev FitsRecord : TaskRecord → Type 0
-FitsRecord r = FitsByte (r .slot) × FitsByte (r .priority) × (r .mask < 256 ^ maskBytes)
 
 record-after : (before b : List ℕ) (o p : ℕ) → p ≡ length before + o → readRecord (before ++ b) p ≡ readRecord b o
 record-after before b o p e =
@@ -113,15 +107,9 @@ records-there (suc n) b s l = go (records-there n (drop size b) (λ o. rw getD-d
 
 -- ---- the events
 
-abbrev pub noEvent : Happening
-noEvent = record { kind = 0; slot = 0 }
-
 -- the event that stands from o on
 abbrev readEvent : List ℕ → ℕ → Happening
 readEvent b o = record { kind = byte b o; slot = byte b (o + 1) }
-
-abbrev FitsEvent : Happening → Type 0
-FitsEvent e = IsEventKind (e .kind) × FitsByte (e .slot)
 
 event-after : (before b : List ℕ) (o p : ℕ) → p ≡ length before + o → readEvent (before ++ b) p ≡ readEvent b o
 event-after before b o p e = rw (byte-after before b o p e, byte-after before b (o + 1) (p + 1) (omega arith)) refl

@@ -45,10 +45,24 @@ FitsByte n = n < 256
 abbrev pub Bytes : List ℕ → Type 0
 Bytes b = (o : ℕ) → FitsByte (byte b o)
 
--- what a file can say: each field in its bytes, a legal core count, each kind an event's, and no more events than allowed
+-- each field in its bytes, and an event's kind is one
+abbrev pub FitsRecord : TaskRecord → Type 0
+FitsRecord r = FitsByte (r .slot) × FitsByte (r .priority) × (r .mask < 256 ^ maskBytes)
+
+abbrev pub FitsEvent : Happening → Type 0
+FitsEvent e = IsEventKind (e .kind) × FitsByte (e .slot)
+
+-- what a file can say
 pub record LegalDay (d : Day) : Type 0 where
   pub count : LegalCount (d .cores)
   pub many-records : FitsByte (length (d .records))
-  pub records : All (λ (r : TaskRecord). FitsByte (r .slot) × FitsByte (r .priority) × (r .mask < 256 ^ maskBytes)) (d .records)
+  pub records : All FitsRecord (d .records)
   pub many-events : length (d .events) ≤ eventLimit
-  pub events : All (λ (e : Happening). IsEventKind (e .kind) × FitsByte (e .slot)) (d .events)
+  pub events : All FitsEvent (d .events)
+
+-- what is read past the end of a list of records or events
+abbrev pub noRecord : TaskRecord
+noRecord = record { slot = 0; priority = 0; mask = 0 }
+
+abbrev pub noEvent : Happening
+noEvent = record { kind = 0; slot = 0 }

@@ -12,32 +12,12 @@ use Rattle.dispatcher.specs.Limits.{coreLimit, none}
 use Rattle.dispatcher.specs.Slots.{seatAt}
 use Rattle.dispatcher.specs.Sound.{Sound}
 use Rattle.dispatcher.specs.Answers.{numberOf}
-use Rattle.dispatcher.specs.declared.Answer.{Answer}
-use Rattle.dispatcher.specs.declared.Answer.the-variants.{Done, NotSound, CoreCount, SlotAbove, SlotInUse, SlotEmpty, PriorityZero, MaskEmpty, MissingCore, AlreadyReady, NotReady, StillReady, FileShort, BytesAfter, BadKind, LineLong, EventCount}
 use Rattle.dispatcher.specs.declared.Dispatcher.{Dispatcher}
+use Rattle.dispatcher.proofs.Same.{number-fits}
 use Rattle.lines.specs.declared.Line.{Line}
 use Rattle.lines.specs.Text.{space, comma, eachAfter, slotText, seatsText, faultText}
 use Rattle.lines.specs.Line.{textOf}
 use Rattle.lines.proofs.Parts.{slot-dash, slot-number, line-length, event-length, report-length, fault-length}
-
-number-below : (a : Answer) → numberOf a < 17
-number-below Done = omega arith
-number-below NotSound = omega arith
-number-below CoreCount = omega arith
-number-below SlotAbove = omega arith
-number-below SlotInUse = omega arith
-number-below SlotEmpty = omega arith
-number-below PriorityZero = omega arith
-number-below MaskEmpty = omega arith
-number-below MissingCore = omega arith
-number-below AlreadyReady = omega arith
-number-below NotReady = omega arith
-number-below StillReady = omega arith
-number-below FileShort = omega arith
-number-below BytesAfter = omega arith
-number-below BadKind = omega arith
-number-below LineLong = omega arith
-number-below EventCount = omega arith
 
 -- a slot's text is one dash or at most as long as its number
 slot-longest : (k slot : ℕ) → 1 ≤ k → slot < 10 ^ k → length (slotText slot) ≤ k
@@ -84,7 +64,7 @@ line-longest l d w sound all =
     let many : length seats ≤ 32 = omega (arith, sound .count .1, length-take-le (d .cores) (d .seats) (omega (arith, sound .count .1))) in
     let number = decimal-length 10 (l .number) (omega arith) (omega arith) in
     let slot = decimal-length 5 (l .slot) (omega arith) (omega arith) in
-    let answer = decimal-length 3 (numberOf (l .report .answer)) (omega arith) (omega (arith, number-below (l .report .answer))) in
+    let answer = decimal-length 3 (numberOf (l .report .answer)) (omega arith) (omega (arith, number-fits (l .report .answer))) in
     let moves = decimal-length 3 (l .report .moves) (omega arith) (omega arith) in
     let started = slot-longest 5 (l .report .started) (omega arith) (omega arith) in
     let stopped = slot-longest 5 (l .report .stopped) (omega arith) (omega arith) in
