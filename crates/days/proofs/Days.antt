@@ -8,8 +8,9 @@ use native.Mathlib.Numerals.{add-one}
 use native.Mathlib.Omega.{arith}
 use lib.ListN.{length}
 use Rattle.laws.proofs.Deciding.{decides-true}
-use Rattle.dispatcher.specs.Slots.{Shaped}
+use Rattle.dispatcher.specs.Slots.{seatAt, Shaped}
 use Rattle.dispatcher.specs.Sound.{Sound}
+use Rattle.dispatcher.specs.Answers.{numberOf}
 use Rattle.dispatcher.specs.Fresh.{Freshly}
 use Rattle.dispatcher.specs.declared.Dispatcher.{Dispatcher}
 use Rattle.dispatcher.specs.declared.Outcome.{Outcome}
@@ -19,11 +20,12 @@ use Rattle.files.specs.Layout.{byte, lowestFirst, maskBytes, coreCount, recordC
 use Rattle.files.specs.Faults.{IsEventKind, WellFormed}
 use Rattle.files.specs.Day.{Bytes}
 use Rattle.lines.specs.Line.{textOf}
+use Rattle.shifting.specs.Rule.{LeastIn}
 use Rattle.calls.specs.Call.{Call, create, delete, wake, block, Fits}
 use Rattle.calls.specs.Sequence.{Step, After}
 use Rattle.calls.specs.Demands.{Demand2}
 use Rattle.calls.proofs.Calling.{does-keeps, modelOf, model-does}
-use Rattle.calls.proofs.Demands.{demand-2}
+use Rattle.calls.proofs.Demands.{demand-2, demand-3}
 use Rattle.days.specs.Calls.{CallAt, HasNoCall}
 use Rattle.days.specs.Step.{lineOf}
 use Rattle.days.specs.Replay.{LineAt, Prints, DayText, CallsOf}
@@ -83,11 +85,20 @@ pub prints-after : (n : ℕ) (b : List ℕ) → Bytes b → (r : Outcome) → Fr
     → (l : List Step) × After n l e × (length l ≡ m) × CallsOf b l
 prints-after n b bytes r fresh m e t h = let (l, after, long, calls) = goes-on n b bytes [] (r .dispatcher) (r, fresh, refl) tt m e t h in (l, after, omega arith, calls)
 
+-- so demand 2 holds after each line
 pub day-demand-2 : (b : List ℕ) → Bytes b → (r : Outcome) → Freshly (coreCount b) r → (m : ℕ) (e : Dispatcher) (t : List ℕ) → Prints b 0 (r .dispatcher) m e t
     → (l : List Step) × After (coreCount b) l e × Demand2 l e × (length l ≡ m) × CallsOf b l
 day-demand-2 b bytes r fresh m e t h =
     let (l, after, long, calls) = prints-after (coreCount b) b bytes r fresh m e t h in
     (l, after, demand-2 (coreCount b) l e after, long, calls)
+
+-- and of the next line, where its call is accepted, the moves that it tells are the fewest
+pub day-demand-3 : (b : List ℕ) → Bytes b → (r : Outcome) → Freshly (coreCount b) r → (m : ℕ) (e : Dispatcher) (t : List ℕ) → Prints b 0 (r .dispatcher) m e t
+    → (o : Outcome) (l : List ℕ) → LineAt b m e o l → numberOf (o .report .answer) ≡ 0
+    → LeastIn (o .dispatcher) (seatAt e) (seatAt (o .dispatcher)) (o .report .moves)
+day-demand-3 b bytes r fresh m e t h o l line done =
+    let (steps, after, _, _) = prints-after (coreCount b) b bytes r fresh m e t h in
+    demand-3 (coreCount b) steps e (line .call) o after (line .does) done
 
 -- ---- the text of a day
 
