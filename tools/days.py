@@ -1,6 +1,8 @@
 """The vectors: event files, each for something that a replay may get wrong.
 
-`shows` are lines that the file must print, worked out by hand from document 01.
+`shows` are lines that the file must print, for most vectors worked out by hand from
+document 01. The random days and the largest file have none; an example's are those it
+quotes; in create-mixtures the slots were corrected after a run, the answers were not.
 They keep a vector true to its purpose, whatever program writes the rest.
 """
 
