@@ -9,31 +9,38 @@ use Rattle.dispatcher.specs.declared.Outcome.{Outcome}
 use Rattle.tasks.proofs.Model.{createOf, create-creates, deleteOf, delete-deletes}
 use Rattle.tasks.proofs.Same.{creates-same, deletes-same}
 use Rattle.tasks.proofs.Keeping.{create-keeps, delete-keeps}
+use Rattle.boot.proofs.Model.{loadOf, load-loads}
+use Rattle.boot.proofs.Same.{all-or-none-same}
+use Rattle.boot.proofs.Keeping.{load-keeps}
 use Rattle.readiness.proofs.Model.{wakeOf, wake-wakes, blockOf, block-blocks}
 use Rattle.readiness.proofs.Same.{wakes-same, blocks-same}
 use Rattle.readiness.proofs.Keeping.{wake-keeps, block-keeps}
-use Rattle.calls.specs.Call.{Call, create, delete, wake, block, Does, Fits}
+use Rattle.calls.specs.Call.{Call, create, delete, load, wake, block, Does, Fits}
 
 pub does-same : (c : Call) (d : Dispatcher) {r q : Outcome} → Does c d r → Does c d q → r ≡ q
 does-same (create slot priority mask) d a b = creates-same a b
 does-same (delete slot) d a b = deletes-same a b
+does-same (load list) d a b = all-or-none-same a b
 does-same (wake slot) d a b = wakes-same a b
 does-same (block slot) d a b = blocks-same a b
 
 pub does-keeps : (c : Call) {d : Dispatcher} (r : Outcome) → Fits c → Shaped d → Sound d → Does c d r → Shaped (r .dispatcher) × Sound (r .dispatcher)
 does-keeps (create slot priority mask) r f L S h = create-keeps L S f h
 does-keeps (delete slot) r f L S h = delete-keeps L S h
+does-keeps (load list) r f L S h = load-keeps L S f h
 does-keeps (wake slot) r f L S h = wake-keeps L S h
 does-keeps (block slot) r f L S h = block-keeps L S h
 
 abbrev pub modelOf : Call → Dispatcher → Outcome
 modelOf (create slot priority mask) d = createOf true d slot priority mask
 modelOf (delete slot) d = deleteOf true d slot
+modelOf (load list) d = loadOf true d list
 modelOf (wake slot) d = wakeOf true d slot
 modelOf (block slot) d = blockOf true d slot
 
 pub model-does : (c : Call) {d : Dispatcher} → Shaped d → Sound d → Does c d (modelOf c d)
 model-does (create slot priority mask) {d} L S = create-creates d slot priority mask (decides-true S)
 model-does (delete slot) {d} L S = delete-deletes d slot (decides-true S)
+model-does (load list) {d} L S = load-loads d list L (decides-true S)
 model-does (wake slot) {d} L S = wake-wakes d slot L (decides-true S)
 model-does (block slot) {d} L S = block-blocks d slot L (decides-true S)

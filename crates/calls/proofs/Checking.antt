@@ -20,13 +20,14 @@ use Rattle.dispatcher.specs.Slots.{Shaped}
 use Rattle.dispatcher.specs.Sound.{Sound}
 use Rattle.dispatcher.specs.Answers.{numberOf}
 use Rattle.dispatcher.specs.Fresh.{Freshly}
+use Rattle.dispatcher.specs.declared.TaskRecord.{TaskRecord}
 use Rattle.dispatcher.specs.declared.Dispatcher.{Dispatcher}
 use Rattle.dispatcher.specs.declared.Outcome.{Outcome}
 use Rattle.dispatcher.proofs.Judging.{firstOf}
 use Rattle.dispatcher.proofs.Same.{freshly-same}
 use Rattle.dispatcher.proofs.Freshness.{freshOf, freshly, freshly-keeps}
 use Rattle.dispatcher.proofs.Testing.{countTest, count-decides}
-use Rattle.calls.specs.Call.{Call, create, delete, wake, block, Fits}
+use Rattle.calls.specs.Call.{Call, create, delete, load, wake, block, Fits}
 use Rattle.calls.specs.Cases.{Line, Prints, Follows, Case, Holds, AllHold, cases}
 use Rattle.calls.proofs.Calling.{does-same, does-keeps, modelOf, model-does}
 
@@ -53,9 +54,19 @@ same-list (a ∷ l) (b ∷ m) h =
 
 -- ---- one line
 
+fitsAll : List TaskRecord → Bool
+fitsAll [] = true
+fitsAll (t ∷ ts) = leb (t .priority) greatestPriority && fitsAll ts
+
+fits-all : (ts : List TaskRecord) → fitsAll ts ≡ true → Fits (load ts)
+unfolding fitsAll
+fits-all [] h = tt
+fits-all (t ∷ ts) h = let k = both (leb (t .priority) greatestPriority) (fitsAll ts) h in (leb-true (t .priority) greatestPriority (k .0), fits-all ts (k .1))
+
 fits : Call → Bool
 fits (create slot priority mask) = leb priority greatestPriority
 fits (delete slot) = true
+fits (load list) = fitsAll list
 fits (wake slot) = true
 fits (block slot) = true
 
@@ -63,6 +74,7 @@ fits-yes : (c : Call) → fits c ≡ true → Fits c
 unfolding fits
 fits-yes (create slot priority mask) h = leb-true priority greatestPriority h
 fits-yes (delete slot) h = tt
+fits-yes (load list) h = fits-all list h
 fits-yes (wake slot) h = tt
 fits-yes (block slot) h = tt
 

@@ -23,9 +23,10 @@ use Rattle.shifting.specs.Rule.{KeepsIn, LeastIn}
 use Rattle.shifting.proofs.Board.{ranked}
 use Rattle.tasks.specs.Create.{createRefusals}
 use Rattle.tasks.specs.Delete.{deleteRefusals}
+use Rattle.boot.specs.Load.{loadRefusals}
 use Rattle.readiness.specs.Wake.{wakeRefusals}
 use Rattle.readiness.specs.Block.{blockRefusals}
-use Rattle.calls.specs.Call.{Call, create, delete, wake, block, Does, refusalsOf}
+use Rattle.calls.specs.Call.{Call, create, delete, load, wake, block, Does, refusalsOf}
 use Rattle.calls.specs.Sequence.{Step, After}
 use Rattle.calls.specs.Woken.{WokenSince}
 use Rattle.calls.specs.Demands.{Demand2}
@@ -66,6 +67,7 @@ demand-3 n l d c r h does = let k = sound-after n l d h in does-rule c r (k .0) 
 pub refused-with-cause : (c : Call) (d : Dispatcher) (r : Outcome) → Does c d r → numberOf (r .report .answer) ≢ 0 → Applies (refusalsOf c d) (numberOf (r .report .answer))
 refused-with-cause (create slot priority mask) d r h = h .answer .listed
 refused-with-cause (delete slot) d r h = h .answer .listed
+refused-with-cause (load list) d r h = h .answer .listed
 refused-with-cause (wake slot) d r h = h .answer .listed
 refused-with-cause (block slot) d r h = h .answer .listed
 
@@ -97,6 +99,7 @@ never-unsound n l d c r h does e = go c (rw e at (refused-with-cause c d r does 
     go : (c : Call) → Applies (refusalsOf c d) 1 → ⊥
     go (create slot priority mask) = unsound-only (later (createRefusals d slot priority mask)) refl (sound-after n l d h .1)
     go (delete slot) = unsound-only (later (deleteRefusals d slot)) refl (sound-after n l d h .1)
+    go (load list) = unsound-only (later (loadRefusals d list)) refl (sound-after n l d h .1)
     go (wake slot) = unsound-only (later (wakeRefusals d slot)) refl (sound-after n l d h .1)
     go (block slot) = unsound-only (later (blockRefusals d slot)) refl (sound-after n l d h .1)
 

@@ -13,10 +13,10 @@ use Rattle.dispatcher.specs.Promise.{Promised}
 use Rattle.dispatcher.specs.declared.Dispatcher.{Dispatcher}
 use Rattle.dispatcher.specs.declared.Outcome.{Outcome}
 use Rattle.readiness.proofs.Keeping.{wake-ready, block-ready}
-use Rattle.calls.specs.Call.{Call, create, delete, wake, block, Does}
+use Rattle.calls.specs.Call.{Call, create, delete, load, wake, block, Does}
 use Rattle.calls.specs.Sequence.{Step}
 use Rattle.calls.specs.Woken.{Woke, DidBlock, Among, WokenSince}
-use Rattle.calls.proofs.Ruling.{create-ready, delete-ready}
+use Rattle.calls.proofs.Ruling.{create-ready, delete-ready, load-ready}
 
 -- ---- the calls that were made
 
@@ -53,12 +53,14 @@ module _ (s : Step) (l : List Step) (t : ℕ) where
 abbrev kind : Call → ℕ
 kind (create slot priority mask) = 0
 kind (delete slot) = 1
-kind (wake slot) = 2
-kind (block slot) = 3
+kind (load list) = 2
+kind (wake slot) = 3
+kind (block slot) = 4
 
 abbrev slotOf : Call → ℕ
 slotOf (create slot priority mask) = slot
 slotOf (delete slot) = slot
+slotOf (load list) = 0
 slotOf (wake slot) = slot
 slotOf (block slot) = slot
 
@@ -76,8 +78,8 @@ refused-after {d = d} s h z t = rw (h .kept z) ((λ r. inr (r, λ b. z (b .1))),
     back (inl w) = absurd (z (w .1))
     back (inr r) = r .0
 
--- create and delete
-aside-after : {d : Dispatcher} (s : Step) → kind (s .call) < 2 → (t : ℕ) → Ready (s .outcome .dispatcher) t ↔ Ready d t → ReadyAfter s d t
+-- create, delete and load
+aside-after : {d : Dispatcher} (s : Step) → kind (s .call) < 3 → (t : ℕ) → Ready (s .outcome .dispatcher) t ↔ Ready d t → ReadyAfter s d t
 aside-after {d} s aside t same = ((λ r. inr (same .0 r, not-blocked)), back)
   where
     not-blocked : DidBlock s t → ⊥
@@ -109,6 +111,7 @@ module _ {d : Dispatcher} {slot : ℕ} (r : Outcome) (z : numberOf (r .report .a
 does-ready : (c : Call) {d : Dispatcher} (r : Outcome) → Shaped d → Sound d → Does c d r → (t : ℕ) → ReadyAfter (step c r) d t
 does-ready (create slot priority mask) r L S h t = aside-after (step (create slot priority mask) r) (omega arith) t (create-ready S h t)
 does-ready (delete slot) r L S h t = aside-after (step (delete slot) r) (omega arith) t (delete-ready h t)
+does-ready (load list) r L S h t = aside-after (step (load list) r) (omega arith) t (load-ready S h t)
 does-ready (wake slot) {d} r L S h t = go (ℕ-discrete (numberOf (r .report .answer)) 0)
   where
     go : Dec (numberOf (r .report .answer) ≡ 0) → ReadyAfter (step (wake slot) r) d t

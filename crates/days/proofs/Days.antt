@@ -21,7 +21,7 @@ use Rattle.files.specs.Faults.{IsEventKind, WellFormed}
 use Rattle.files.specs.Day.{Bytes}
 use Rattle.lines.specs.Line.{textOf}
 use Rattle.shifting.specs.Rule.{LeastIn}
-use Rattle.calls.specs.Call.{Call, create, delete, wake, block, Fits}
+use Rattle.calls.specs.Call.{Call, create, delete, load, wake, block, Fits}
 use Rattle.calls.specs.Sequence.{Step, After}
 use Rattle.calls.specs.Demands.{Demand2}
 use Rattle.calls.proofs.Calling.{does-keeps, modelOf, model-does}
@@ -61,6 +61,7 @@ no-call-there b k l (create _ _ _) a = omega (arith, a .0 .counted)
 no-call-there b k l (wake _) a = omega (arith, a .1 .0 .counted)
 no-call-there b k l (block _) a = omega (arith, a .1 .0 .counted)
 no-call-there b k l (delete _) a = omega (arith, a .1 .0 .counted)
+no-call-there b k l (load _) a = a
 
 -- a priority that is read is a byte
 call-fits : (b : List ℕ) (k : ℕ) (c : Call) → Bytes b → CallAt b k c → Fits c
@@ -68,6 +69,7 @@ call-fits b k (create _ _ _) bytes a = omega (arith, a .2, bytes (recordPlace b 
 call-fits b k (wake _) bytes a = tt
 call-fits b k (block _) bytes a = tt
 call-fits b k (delete _) bytes a = tt
+call-fits b k (load _) bytes a = absurd a
 
 -- ---- runs
 

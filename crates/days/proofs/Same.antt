@@ -15,7 +15,7 @@ use Rattle.dispatcher.proofs.Same.{number-same}
 use Rattle.lines.specs.Line.{IsLineKind, lineRefusals}
 use Rattle.lines.specs.declared.Line.{Line}
 use Rattle.lines.proofs.Same.{stands-same}
-use Rattle.calls.specs.Call.{Call, create, delete, wake, block, Does}
+use Rattle.calls.specs.Call.{Call, create, delete, load, wake, block, Does}
 use Rattle.calls.proofs.Calling.{does-same}
 use Rattle.days.specs.declared.FileCall.{FileCall}
 use Rattle.days.specs.declared.FileCall.the-variants.{Create, Wake, Block, Delete, NoCall}
@@ -34,6 +34,7 @@ fileCall (create slot priority mask) = Create slot priority mask
 fileCall (wake slot) = Wake slot
 fileCall (block slot) = Block slot
 fileCall (delete slot) = Delete slot
+fileCall (load list) = NoCall
 
 abbrev Found : List ℕ → ℕ → FileCall → Type 0
 Found b k f = ((c : Call) × CallAt b k c × (f ≡ fileCall c)) ⊎ (HasNoCall b k × (f ≡ NoCall))
@@ -130,6 +131,7 @@ kind-small (create slot priority mask) = omega arith
 kind-small (wake slot) = omega arith
 kind-small (block slot) = omega arith
 kind-small (delete slot) = omega arith
+kind-small (load list) = omega arith
 
 -- a line that fits is written
 not-stopped : {b : List ℕ} {k n : ℕ} {d : Dispatcher} {room l : List ℕ} {o : Outcome} → LineAt b k d o l → length l ≤ length room → Stops b k d room n → ⊥

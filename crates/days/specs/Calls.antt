@@ -7,19 +7,20 @@ use Rattle.files.specs.Layout.{recordCount}
 use Rattle.files.specs.Reading.{ReadsRecord, ReadsEvent}
 use Rattle.files.specs.declared.FileRecord.the-variants.{Record}
 use Rattle.files.specs.declared.FileEvent.the-variants.{Event}
-use Rattle.calls.specs.Call.{Call, create, delete, wake, block}
+use Rattle.calls.specs.Call.{Call, create, delete, load, wake, block}
 use Rattle.days.specs.declared.FileCall.{FileCall}
 use Rattle.days.specs.declared.FileCall.the-variants.{Create, Wake, Block, Delete, NoCall}
 
 abbrev pub EventAt : List ℕ → ℕ → ℕ → ℕ → Type 0
 EventAt b k kind slot = (recordCount b ≤ k) × ReadsEvent b (k - recordCount b) (Event kind slot)
 
--- kinds: 1 wake, 2 block, 3 delete
+-- kinds: 1 wake, 2 block, 3 delete; a file creates record by record and has no load
 abbrev pub CallAt : List ℕ → ℕ → Call → Type 0
 CallAt b k (create slot priority mask) = ReadsRecord b k (Record slot priority mask)
 CallAt b k (wake slot) = EventAt b k 1 slot
 CallAt b k (block slot) = EventAt b k 2 slot
 CallAt b k (delete slot) = EventAt b k 3 slot
+CallAt b k (load list) = ⊥
 
 abbrev pub HasNoCall : List ℕ → ℕ → Type 0
 HasNoCall b k = (c : Call) → CallAt b k c → ⊥

@@ -3,31 +3,35 @@ use Prim.Native.Nat.{ℕ, _+_}
 use mathlib.Core.Path.{_≡_}
 use mathlib.Core.Logic.{_≢_, _⊎_}
 use mathlib.Core.List.{List}
+use Rattle.dispatcher.specs.Limits.{none}
 use Rattle.dispatcher.specs.Answers.{numberOf}
+use Rattle.dispatcher.specs.Reports.{plainOf}
 use Rattle.dispatcher.specs.declared.Dispatcher.{Dispatcher}
 use Rattle.dispatcher.specs.declared.Outcome.{Outcome}
 use Rattle.lines.specs.Line.{Writes}
 use Rattle.lines.specs.declared.Line.{Line}
-use Rattle.calls.specs.Call.{Call, create, delete, wake, block, Does}
+use Rattle.calls.specs.Call.{Call, create, delete, load, wake, block, Does}
 use Rattle.days.specs.declared.Stepped.{Stepped}
 use Rattle.days.specs.Calls.{CallAt, HasNoCall}
 
--- 0 to 3 for C, W, B, D
+-- 0 to 3 for C, W, B, D; a load, which no file has, counts as its creates
 abbrev pub kindOf : Call → ℕ
 kindOf (create slot priority mask) = 0
 kindOf (wake slot) = 1
 kindOf (block slot) = 2
 kindOf (delete slot) = 3
+kindOf (load list) = 0
 
 abbrev pub slotOf : Call → ℕ
 slotOf (create slot priority mask) = slot
 slotOf (wake slot) = slot
 slotOf (block slot) = slot
 slotOf (delete slot) = slot
+slotOf (load list) = none
 
 -- the line of call k: the running number is from 1
 abbrev pub lineWith : ℕ → ℕ → ℕ → Outcome → Line
-lineWith k kind slot o = record { number = k + 1; kind = kind; slot = slot; report = o .report }
+lineWith k kind slot o = record { number = k + 1; kind = kind; slot = slot; report = plainOf (o .report) }
 
 abbrev pub lineOf : ℕ → Call → Outcome → Line
 lineOf k c o = lineWith k (kindOf c) (slotOf c) o

@@ -1,7 +1,6 @@
 // Replays the day that an event file says: one step makes the next call and writes its line.
-ghost use Prim.Native.Nat.{_+_, _≤_, _<_};
+ghost use Prim.Native.Nat.{_<_};
 ghost use mathlib.Core.Path.{_≡_};
-ghost use Rattle.dispatcher.specs.Answers.{numberOf};
 ghost use Rattle.files.specs.Layout.{recordCount};
 ghost use Rattle.days.specs.Calls.{eventCall, ReadsCall};
 ghost use Rattle.days.specs.Step.{lineWith, Told, Steps};
@@ -92,12 +91,13 @@ fn told(d: Dispatcher, k: usize, kind: u8, slot: u16, made: Outcome, buffer: &mu
     ensures { λ r. ⌜ Told d (lineWith k kind slot made) made (now (buffer .entry)) (now (buffer .exit)) r ⌝ }
 {
     let report = made.report;
+    let plain = report.plain();
     let next = made.dispatcher;
     let line = Line {
         number: k as u32 + 1,
         kind,
         slot,
-        report,
+        report: plain,
     };
     let written = lines::write(line, next, buffer);
     let answer = written.answer;

@@ -46,6 +46,10 @@ applies-split (r ∷ rs) more n (inr a) = go (applies-split rs more n a)
     go (inl b) = inl (inr b)
     go (inr b) = inr b
 
+-- rows whose causes hold alike
+pub answers-by : {rs qs : List Refusal} {n : ℕ} → ((m : ℕ) → Applies rs m → Applies qs m) → ((m : ℕ) → Applies qs m → Applies rs m) → Answers rs n → Answers qs n
+answers-by {n = n} to from h = record { listed = λ z. to n (h .listed z); lowest = λ m a. h .lowest m (from m a) }
+
 -- one of the first rows applies, and the others' numbers are higher
 pub answers-first : (rs more : List Refusal) {n : ℕ} → Answers rs n → n ≢ 0 → ((m : ℕ) → Applies more m → n < m) → Answers (rs ++ more) n
 answers-first rs more {n} h z above = record { listed = λ y. applies-left rs more n (h .listed y); lowest = λ m a. go m (applies-split rs more m a) }

@@ -1,5 +1,5 @@
 -- Any two results that a promise allows are the same.
-use Prim.Native.Nat.{ℕ, _<_}
+use Prim.Native.Nat.{ℕ}
 use mathlib.Core.Path.{_≡_, refl, sym, ap, _∙_}
 use mathlib.Core.Logic.{_≢_}
 use mathlib.Core.Bool.{cond}
@@ -16,7 +16,7 @@ use Rattle.dispatcher.specs.declared.Answer.the-variants.{Done, NotSound
 use Rattle.dispatcher.specs.declared.Dispatcher.{Dispatcher}
 use Rattle.dispatcher.specs.declared.Outcome.{Outcome}
 
--- ---- a number belongs to one answer, and is one byte
+-- ---- a number belongs to one answer
 
 answerOf : ℕ → Answer
 answerOf n =
@@ -47,25 +47,6 @@ answer-back EventCount = refl
 
 pub number-same : {a b : Answer} → numberOf a ≡ numberOf b → a ≡ b
 number-same {a} {b} e = sym (answer-back a) ∙ ap answerOf e ∙ answer-back b
-
-pub number-fits : (a : Answer) → numberOf a < 256
-number-fits Done = omega arith
-number-fits NotSound = omega arith
-number-fits CoreCount = omega arith
-number-fits SlotAbove = omega arith
-number-fits SlotInUse = omega arith
-number-fits SlotEmpty = omega arith
-number-fits PriorityZero = omega arith
-number-fits MaskEmpty = omega arith
-number-fits MissingCore = omega arith
-number-fits AlreadyReady = omega arith
-number-fits NotReady = omega arith
-number-fits StillReady = omega arith
-number-fits FileShort = omega arith
-number-fits BytesAfter = omega arith
-number-fits BadKind = omega arith
-number-fits LineLong = omega arith
-number-fits EventCount = omega arith
 
 -- ---- a list of refusals allows one answer
 

@@ -4,10 +4,18 @@ use mathlib.Core.Path.{_≡_}
 use lib.ListN.{length, getD}
 use Rattle.dispatcher.specs.Limits.{coreLimit, slotLimit, none}
 use Rattle.dispatcher.specs.declared.Task.{Task}
+use Rattle.dispatcher.specs.declared.TaskRecord.{TaskRecord}
 use Rattle.dispatcher.specs.declared.Dispatcher.{Dispatcher}
 
 abbrev pub noTask : Task
 noTask = record { priority = 0; mask = 0 }
+
+-- a record's task; and what is read past the end of a list of records
+abbrev pub taskOf : TaskRecord → Task
+taskOf t = record { priority = t .priority; mask = t .mask }
+
+abbrev pub noRecord : TaskRecord
+noRecord = record { slot = 0; priority = 0; mask = 0 }
 
 -- the task in slot s, the slot at place k of the wake order, the slot on core c
 abbrev pub taskAt : Dispatcher → ℕ → Task

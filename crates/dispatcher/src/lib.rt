@@ -4,9 +4,10 @@ ghost use Rattle.laws.specs.Decides.{Decides};
 ghost use Rattle.dispatcher.specs.Limits.{LegalCount};
 ghost use Rattle.dispatcher.specs.Slots.{Used, Ready};
 ghost use Rattle.dispatcher.specs.Answers.{numberOf};
-ghost use Rattle.dispatcher.specs.Reports.{stillOf};
+ghost use Rattle.dispatcher.specs.Reports.{stillOf, plainOf};
 ghost use Rattle.dispatcher.specs.Fresh.{emptyOf, Freshly};
 
+#[repr(C)]
 pub struct Task {
     pub priority: u8,
     pub mask: u32,
@@ -31,6 +32,7 @@ impl Task {
     }
 }
 
+#[repr(C)]
 pub struct Dispatcher {
     pub cores: u8,
     // The task of each slot.
@@ -39,6 +41,14 @@ pub struct Dispatcher {
     pub order: [u16; Dispatcher::SLOTS],
     // The slot that runs on each core, or NONE.
     pub seats: [u16; Dispatcher::CORES],
+}
+
+// A task and the slot that it is to fill, as boot lists and event files name it.
+#[repr(C)]
+pub struct TaskRecord {
+    pub slot: u16,
+    pub priority: u8,
+    pub mask: u32,
 }
 
 // What a call answers. `number` gives document 01's number.
@@ -96,6 +106,15 @@ pub struct Report {
     pub stopped: u16,
 }
 
+// A report for C: document 01's number in place of the answer.
+#[repr(C)]
+pub struct PlainReport {
+    pub number: u8,
+    pub moves: u8,
+    pub started: u16,
+    pub stopped: u16,
+}
+
 impl Report {
     // Nobody moved, started or stopped.
     pub fn still(answer: Answer) -> Report
@@ -106,6 +125,19 @@ impl Report {
             moves: 0,
             started: Dispatcher::NONE,
             stopped: Dispatcher::NONE,
+        }
+    }
+
+    // The report in plain numbers.
+    pub fn plain(self) -> PlainReport
+        ensures { λ r. ⌜ r ≡ plainOf self ⌝ }
+    {
+        let answer = self.answer;
+        PlainReport {
+            number: answer.number(),
+            moves: self.moves,
+            started: self.started,
+            stopped: self.stopped,
         }
     }
 }
@@ -173,14 +205,16 @@ impl Dispatcher {
         if Dispatcher::SLOTS <= (slot as usize) {
             return false;
         }
+        // No exit at the place where it stands: so the compiler compares many places at once.
+        let mut found = false;
         let mut k: usize = 0;
         while k < Dispatcher::SLOTS {
             let stands = self.order[k];
             if stands == slot {
-                return true;
+                found = true;
             }
             k += 1;
         }
-        false
+        found
     }
 }

@@ -8,10 +8,13 @@ use native.Mathlib.Omega.{arith}
 use lib.ListN.{length, getD, drop, length-append, length-drop}
 use lib.Seq.{getD-append-add, getD-drop, drop-cons, drop-drop, ext-getD}
 use Rattle.laws.specs.Lists.{All}
+use Rattle.laws.proofs.Lists.{all-at}
+use Rattle.dispatcher.specs.Slots.{noRecord}
+use Rattle.dispatcher.specs.declared.TaskRecord.{TaskRecord}
 use Rattle.files.specs.Layout.{byte, lowestFirst, maskBytes, coreCount, recordCount, recordPlace, eventCount, eventPlace, endPlace}
 use Rattle.files.specs.Faults.{IsEventKind, WellFormed}
 use Rattle.files.specs.Reading.{ReadsRecord, ReadsEvent}
-use Rattle.files.specs.Day.{TaskRecord, Happening, Day, bytesOf, recordBytes, eventBytes, fileOf, FitsByte, Bytes, FitsRecord, FitsEvent, noRecord, noEvent, LegalDay}
+use Rattle.files.specs.Day.{Happening, Day, bytesOf, recordBytes, eventBytes, fileOf, FitsByte, Bytes, FitsRecord, FitsEvent, noEvent, LegalDay}
 use Rattle.files.specs.declared.FileRecord.the-variants.{Record}
 use Rattle.files.specs.declared.FileEvent.the-variants.{Event}
 
@@ -119,11 +122,6 @@ event-at [] i l = absurd (omega arith)
 event-at (e ∷ es) zero l = refl
 event-at (e ∷ es) (suc i) l = event-after (eventBytes (e ∷ [])) (eventBytes es) (2 * i) (2 * suc i) (omega arith) ∙ event-at es i (omega arith)
 
-event-fits : (es : List Happening) → All FitsEvent es → (i : ℕ) → i < length es → FitsEvent (getD es i noEvent)
-event-fits [] f i l = absurd (omega arith)
-event-fits (e ∷ es) f zero l = f .0
-event-fits (e ∷ es) f (suc i) l = event-fits es (f .1) i (omega arith)
-
 events-long : (es : List Happening) → length (eventBytes es) ≡ 2 * length es
 events-long [] = refl
 events-long (e ∷ es) = omega (arith, events-long es)
@@ -203,7 +201,7 @@ module _ (d : Day) (legal : LegalDay d) where
   day-well-formed = record {
     count = legal .count;
     events = rw events-counted (legal .many-events);
-    kinds = λ i l. let m : i < length (d .events) = rw events-counted at l in rw (ap (λ (e : Happening). e .kind) (event-is i m)) (event-fits (d .events) (legal .events) i m .0);
+    kinds = λ i l. let m : i < length (d .events) = rw events-counted at l in rw (ap (λ (e : Happening). e .kind) (event-is i m)) (all-at FitsEvent (d .events) noEvent (legal .events) i m .0);
     whole = file-long;
   }
 

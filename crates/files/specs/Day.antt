@@ -4,13 +4,9 @@ use mathlib.Core.List.{List, [], _∷_, _++_}
 use lib.ListN.{length}
 use Rattle.laws.specs.Lists.{All}
 use Rattle.dispatcher.specs.Limits.{eventLimit, LegalCount}
+use Rattle.dispatcher.specs.declared.TaskRecord.{TaskRecord}
 use Rattle.files.specs.Layout.{byte, maskBytes}
 use Rattle.files.specs.Faults.{IsEventKind}
-
-pub record TaskRecord : Type 0 where
-  pub slot : ℕ
-  pub priority : ℕ
-  pub mask : ℕ
 
 pub record Happening : Type 0 where
   pub kind : ℕ
@@ -60,9 +56,6 @@ pub record LegalDay (d : Day) : Type 0 where
   pub many-events : length (d .events) ≤ eventLimit
   pub events : All FitsEvent (d .events)
 
--- what is read past the end of a list of records or events
-abbrev pub noRecord : TaskRecord
-noRecord = record { slot = 0; priority = 0; mask = 0 }
-
+-- what is read past the end of a list of events
 abbrev pub noEvent : Happening
 noEvent = record { kind = 0; slot = 0 }

@@ -5,7 +5,7 @@ use mathlib.Core.Logic.{_⊎_, inl, inr}
 use mathlib.Core.List.{List, [], _∷_, _++_}
 use native.Mathlib.Nat.{not-suc-le-zero, le-of-suc-le-suc}
 use lib.ListN.{length, getD}
-use Rattle.laws.specs.Lists.{In}
+use Rattle.laws.specs.Lists.{In, All}
 
 -- below the length it does not matter what would stand beyond it
 pub getD-any : {A : Type 0} (l : List A) (i : ℕ) (a b : A) → i < length l → getD l i a ≡ getD l i b
@@ -18,6 +18,12 @@ pub getD-beyond : {A : Type 0} (l : List A) (i : ℕ) (a : A) → length l ≤ i
 getD-beyond [] i a h = refl
 getD-beyond (x ∷ l) zero a h = absurd (not-suc-le-zero h)
 getD-beyond (x ∷ l) (suc i) a h = getD-beyond l i a (le-of-suc-le-suc h)
+
+-- what holds of each holds of the one at place i
+pub all-at : {A : Type 0} (P : A → Type 0) (l : List A) (a : A) → All P l → (i : ℕ) → i < length l → P (getD l i a)
+all-at P [] a h i b = absurd (not-suc-le-zero b)
+all-at P (x ∷ l) a h zero b = h .0
+all-at P (x ∷ l) a h (suc i) b = all-at P l a (h .1) i (le-of-suc-le-suc b)
 
 -- who stands in two lists, one after the other
 pub in-append : (c : ℕ) (s t : List ℕ) → In c (s ++ t) → In c s ⊎ In c t

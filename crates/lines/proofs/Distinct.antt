@@ -12,7 +12,6 @@ use Rattle.laws.specs.Lists.{In}
 use Rattle.decimals.specs.Decimal.{decimal}
 use Rattle.decimals.proofs.Spelling.{decimal-same, decimal-digits, decimal-some}
 use Rattle.dispatcher.specs.Limits.{none}
-use Rattle.dispatcher.proofs.Same.{number-same}
 use Rattle.lines.specs.declared.Line.{Line}
 use Rattle.lines.specs.Text.{space, comma, dash, joined, letterOf, slotText, fieldsOf, seatsText, lineText, refusedWord, atWord, faultText}
 use Rattle.lines.specs.Line.{IsLineKind}
@@ -119,12 +118,12 @@ line-same {l} {m} {s} {u} a b e =
     let number = decimal-same (l .number) (m .number) (cc) in
     let kind = letter-same (l .kind) (m .kind) a b (cc) in
     let slot = decimal-same (l .slot) (m .slot) (cc) in
-    let answer : l .report .answer ≡ m .report .answer = number-same (decimal-same _ _ (cc)) in
+    let answer = decimal-same (l .report .number) (m .report .number) (cc) in
     let moves = decimal-same (l .report .moves) (m .report .moves) (cc) in
     let started = slot-same (l .report .started) (m .report .started) (cc) in
     let stopped = slot-same (l .report .stopped) (m .report .stopped) (cc) in
     let seats = seats-same s u (cc) in
-    let report : l .report ≡ m .report = λ i. record { answer = answer i; moves = moves i; started = started i; stopped = stopped i } in
+    let report : l .report ≡ m .report = λ i. record { number = answer i; moves = moves i; started = started i; stopped = stopped i } in
     (λ i. record { number = number i; kind = kind i; slot = slot i; report = report i }, seats)
 
 -- ---- a refused file

@@ -1,6 +1,6 @@
 -- No line is longer than the bytes it is made in: so many digits has a number of each width, and so many seats are there.
 use Prim.Native.Nat.{ℕ, suc, _*_, _^_, _≤_, _<_}
-use mathlib.Core.Path.{_≡_, refl}
+use mathlib.Core.Path.{_≡_}
 use mathlib.Core.List.{List, [], _∷_, map}
 use native.Mathlib.Decide.{ℕ-discrete}
 use native.Mathlib.Omega.{arith}
@@ -11,9 +11,7 @@ use Rattle.decimals.proofs.Spelling.{decimal-length}
 use Rattle.dispatcher.specs.Limits.{coreLimit, none}
 use Rattle.dispatcher.specs.Slots.{seatAt}
 use Rattle.dispatcher.specs.Sound.{Sound}
-use Rattle.dispatcher.specs.Answers.{numberOf}
 use Rattle.dispatcher.specs.declared.Dispatcher.{Dispatcher}
-use Rattle.dispatcher.proofs.Same.{number-fits}
 use Rattle.lines.specs.declared.Line.{Line}
 use Rattle.lines.specs.Text.{space, comma, eachAfter, slotText, seatsText, faultText}
 use Rattle.lines.specs.Line.{textOf}
@@ -42,6 +40,7 @@ seats-longest (x ∷ xs) many small = omega (arith, commas-longest (x ∷ xs) sm
 pub record Wide (l : Line) : Type 0 where
   pub number : l .number < 2 ^ 32
   pub slot : l .slot < 2 ^ 16
+  pub answer : l .report .number < 2 ^ 8
   pub moves : l .report .moves < 2 ^ 8
   pub started : l .report .started < 2 ^ 16
   pub stopped : l .report .stopped < 2 ^ 16
@@ -64,11 +63,11 @@ line-longest l d w sound all =
     let many : length seats ≤ 32 = omega (arith, sound .count .1, length-take-le (d .cores) (d .seats) (omega (arith, sound .count .1))) in
     let number = decimal-length 10 (l .number) (omega arith) (omega arith) in
     let slot = decimal-length 5 (l .slot) (omega arith) (omega arith) in
-    let answer = decimal-length 3 (numberOf (l .report .answer)) (omega arith) (omega (arith, number-fits (l .report .answer))) in
+    let answer = decimal-length 3 (l .report .number) (omega arith) (omega arith) in
     let moves = decimal-length 3 (l .report .moves) (omega arith) (omega arith) in
     let started = slot-longest 5 (l .report .started) (omega arith) (omega arith) in
     let stopped = slot-longest 5 (l .report .stopped) (omega arith) (omega arith) in
-    omega (arith, line-length l seats, event-length l, report-length (l .report) refl, seats-longest seats many (seats-small d sound all))
+    omega (arith, line-length l seats, event-length l, report-length (l .report), seats-longest seats many (seats-small d sound all))
 
 pub fault-longest : (n offset : ℕ) → n < 2 ^ 8 → offset < 2 ^ 64 → length (faultText n offset) ≤ 36
 fault-longest n offset a b = omega (arith, fault-length n offset, decimal-length 3 n (omega arith) (omega arith), decimal-length 20 offset (omega arith) (omega arith))

@@ -8,8 +8,7 @@ use borrow.Author.Tests.{eq-eqb, ne-eqb}
 use lib.ListN.{length, length-append}
 use Rattle.decimals.specs.Decimal.{decimal}
 use Rattle.dispatcher.specs.Limits.{none}
-use Rattle.dispatcher.specs.Answers.{numberOf}
-use Rattle.dispatcher.specs.declared.Report.{Report}
+use Rattle.dispatcher.specs.declared.PlainReport.{PlainReport}
 use Rattle.lines.specs.declared.Line.{Line}
 use Rattle.lines.specs.Text.{space, newline, dash, eachAfter, joined, eventFields, reportFields, slotText, seatsText, lineText, refusedWord, atWord, faultText}
 
@@ -24,10 +23,9 @@ slot-number slot n = rw (ne-eqb slot none n)
 pub event-length : (l : Line) → length (joined space (eventFields l)) ≡ 3 + (length (decimal (l .number)) + length (decimal (l .slot)))
 event-length l = simp (length-append, append-nil) (omega arith)
 
--- with the answer's number under any name
-pub report-length : (r : Report) {n : ℕ} → n ≡ numberOf (r .answer)
-    → length (eachAfter space (reportFields r)) ≡ 4 + (length (decimal n) + (length (decimal (r .moves)) + (length (slotText (r .started)) + length (slotText (r .stopped)))))
-report-length r e = rw e (simp (length-append, append-nil) (omega arith))
+pub report-length : (r : PlainReport)
+    → length (eachAfter space (reportFields r)) ≡ 4 + (length (decimal (r .number)) + (length (decimal (r .moves)) + (length (slotText (r .started)) + length (slotText (r .stopped)))))
+report-length r = simp (length-append, append-nil) (omega arith)
 
 pub line-pieces : (l : Line) (seats : List ℕ)
     → lineText l seats ≡ joined space (eventFields l) ++ (eachAfter space (reportFields (l .report)) ++ ((space ∷ seatsText seats) ++ (newline ∷ [])))

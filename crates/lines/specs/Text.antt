@@ -6,8 +6,7 @@ use lib.Dec.{eqb}
 use lib.ListN.{getD}
 use Rattle.decimals.specs.Decimal.{decimal}
 use Rattle.dispatcher.specs.Limits.{none}
-use Rattle.dispatcher.specs.Answers.{numberOf}
-use Rattle.dispatcher.specs.declared.Report.{Report}
+use Rattle.dispatcher.specs.declared.PlainReport.{PlainReport}
 use Rattle.lines.specs.declared.Line.{Line}
 
 abbrev pub newline : ℕ
@@ -44,9 +43,9 @@ slotText slot = cond (eqb slot none) (dash ∷ []) (decimal slot)
 abbrev pub eventFields : Line → List (List ℕ)
 eventFields l = decimal (l .number) ∷ (letterOf (l .kind) ∷ []) ∷ decimal (l .slot) ∷ []
 
--- answer; moves; started; stopped
-abbrev pub reportFields : Report → List (List ℕ)
-reportFields r = decimal (numberOf (r .answer)) ∷ decimal (r .moves) ∷ slotText (r .started) ∷ slotText (r .stopped) ∷ []
+-- answer's number; moves; started; stopped
+abbrev pub reportFields : PlainReport → List (List ℕ)
+reportFields r = decimal (r .number) ∷ decimal (r .moves) ∷ slotText (r .started) ∷ slotText (r .stopped) ∷ []
 
 abbrev pub fieldsOf : Line → List (List ℕ)
 fieldsOf l = eventFields l ++ reportFields (l .report)

@@ -7,19 +7,20 @@ ghost use lib.ListN.{length, take, drop};
 ghost use Rattle.decimals.specs.Decimal.{decimal};
 ghost use Rattle.decimals.specs.Put.{Puts};
 ghost use Rattle.dispatcher.specs.Limits.{LegalCount};
-ghost use Rattle.dispatcher.specs.Answers.{numberOf, _when_};
+ghost use Rattle.dispatcher.specs.Answers.{_when_};
 ghost use Rattle.lines.specs.Text.{space, eachAfter, joined, letterOf, slotText, eventFields, reportFields, seatsText, lineText, faultText};
 ghost use Rattle.lines.specs.Line.{IsLineKind, IsLong, Stands, Writes, WritesFault};
 use dispatcher::Answer;
 use dispatcher::Dispatcher;
-use dispatcher::Report;
+use dispatcher::PlainReport;
 
 // What a line says besides the seats. The kind is 0 to 3 for create, wake, block, delete.
+#[repr(C)]
 pub struct Line {
     pub number: u32,
     pub kind: u8,
     pub slot: u16,
-    pub report: Report,
+    pub report: PlainReport,
 }
 
 impl Line {
@@ -106,12 +107,11 @@ fn put_event(text: &mut [u8], line: Line) -> usize
 }
 
 // Each field of the report after a space.
-fn put_report(text: &mut [u8], at: usize, report: Report) -> usize
+fn put_report(text: &mut [u8], at: usize, report: PlainReport) -> usize
     requires { ⌜ at + length (eachAfter space (reportFields report)) ≤ length (now text) ⌝ }
     ensures { λ r. ⌜ Puts (eachAfter space (reportFields report)) at (now (text .entry)) (now (text .exit)) r ⌝ }
 {
-    let given = report.answer;
-    let answer = put_number(text, at, given.number() as u64);
+    let answer = put_number(text, at, report.number as u64);
     let moves = put_number(text, answer, report.moves as u64);
     let started = put_slot(text, moves, b' ', report.started);
     put_slot(text, started, b' ', report.stopped)
@@ -202,10 +202,10 @@ fn put_fault(text: &mut [u8], number: u8, offset: usize) -> usize
 }
 
 // The one line of a refused file.
-pub fn write_fault(answer: Answer, offset: usize, buffer: &mut [u8]) -> Written
-    ensures { λ r. ⌜ WritesFault (numberOf answer) offset (now (buffer .entry)) (now (buffer .exit)) r ⌝ }
+pub fn write_fault(number: u8, offset: usize, buffer: &mut [u8]) -> Written
+    ensures { λ r. ⌜ WritesFault number offset (now (buffer .entry)) (now (buffer .exit)) r ⌝ }
 {
     let mut text = [0u8; Line::LONGEST_FAULT];
-    let size = put_fault(&mut text, answer.number(), offset);
+    let size = put_fault(&mut text, number, offset);
     hand_over(&text, size, buffer)
 }

@@ -73,7 +73,7 @@ fn print_day(file: &[u8], cores: u8, calls: usize) {
 
 fn print_fault(answer: Answer, offset: usize) {
     let mut line = [0u8; Line::LONGEST_FAULT];
-    let w = lines::write_fault(answer, offset, &mut line);
+    let w = lines::write_fault(answer.number(), offset, &mut line);
     let length = w.length;
     if !io::write_all(STDOUT_FILENO, &line[..length]) {
         os::fail(b"standard output");

@@ -57,8 +57,8 @@ no-slot {d} L = getD-beyond (d .tasks) none noTask (rw (L .tasks) (omega arith))
 pub sitters-masks : {d : Dispatcher} {masks : List ℕ} → Shaped d → Sound d → SittersOf d masks → Masks (d .cores) none (mayRun d) (seatAt d) (λ t. taskAt d t .mask) masks
 sitters-masks {d} L S T = record {
   allows = λ t c l. refl;
-  sitter = λ c l q. T .each c (core-below S l);
-  idle = λ c l q. T .each c (core-below S l) ∙ ap (λ (t : ℕ). taskAt d t .mask) q ∙ ap (λ (t : Task). t .mask) (no-slot L);
+  sitter = λ c l q. T .each c l;
+  idle = λ c l q. T .each c l ∙ ap (λ (t : ℕ). taskAt d t .mask) q ∙ ap (λ (t : Task). t .mask) (no-slot L);
 }
 
 -- the chain that a search found is taken

@@ -53,13 +53,13 @@ module _ {d : Dispatcher} {masks : List ℕ} {x : ℕ} (L : Shaped d) (A : Arriv
   M = sitters-masks L (A .sound) T
 
   pub idle-taken : {idle : ℕ} {route : Route} {r : Shift} → IdleCores d idle → Found (d .cores) masks (taskAt d x .mask) idle route → r ≡ takenBy (d .seats) route x none → Arrived d x r
-  idle-taken I F q = rw q (to-idle (found-shift L (A .sound) T F (λ c. eqb (seatAt d c) none) (λ c l. I .each c (core-below (A .sound) l))))
+  idle-taken I F q = rw q (to-idle (found-shift L (A .sound) T F (λ c. eqb (seatAt d c) none) (I .each)))
 
   pub idle-none : {idle : ℕ} {route : Route} → IdleCores d idle → Nowhere (d .cores) masks (taskAt d x .mask) idle route → Pushing d masks x
   idle-none I N = record {
     arriving = A;
     sitters = T;
-    full = no-idle (unreached-target (λ c. eqb (seatAt d c) none) (λ c l. I .each c (core-below (A .sound) l)) (unreached-tasks M x (N .unreached)));
+    full = no-idle (unreached-target (λ c. eqb (seatAt d c) none) (I .each) (unreached-tasks M x (N .unreached)));
   }
 
   module _ {seen : ℕ} (full : NoIdle (d .cores) none (mayRun d) (seatAt d) x) (R : ReachedCores (d .cores) masks (taskAt d x .mask) seen) where

@@ -1,5 +1,6 @@
 mod Tabling
 mod Picking
+mod Along
 mod Seeking
 mod Deciding
 pub mod Board

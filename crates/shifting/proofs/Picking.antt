@@ -1,4 +1,4 @@
--- The loops that pick the last or the first task: what was picked, and its rank.
+-- The loop that picks the last task: what was picked, and its rank.
 use Prim.Native.Nat.{ℕ, _+_, _≤_, _<_}
 use mathlib.Core.Path.{_≡_, refl, ap, _∙_}
 use mathlib.Core.Logic.{_≢_}
@@ -9,7 +9,7 @@ use lib.ListN.{getD}
 use lib.Dec.{leb}
 use borrow.Author.Tests.{le-leb}
 use Rattle.laws.specs.Pick.{Picks}
-use Rattle.laws.proofs.Picking.{by-key, turned, picks-start, picks-skip, picks-new, picks-keep, picked-real}
+use Rattle.laws.proofs.Picking.{by-key, picks-start, picks-skip, picks-new, picks-keep, picked-real}
 use Rattle.dispatcher.specs.Slots.{taskAt, Ready}
 use Rattle.dispatcher.specs.declared.Dispatcher.{Dispatcher}
 use Rattle.order.specs.Places.{FirstPlaces}
@@ -41,25 +41,6 @@ module _ {mark : ℕ} {f : ℕ → Bool} {key : ℕ → ℕ} {m r k : ℕ} (l : 
   pub not-later : key m < k → Picking mark (λ a b. leb (key a) (key b)) f key 0 (m + 1) r k
   not-later q = record {
     picks = picks-keep (picked-real (P .picks) real) (let t = P .told real in le-leb (key m) (key r) (omega arith));
-    none-yet = P .none-yet;
-    told = P .told;
-  }
-    where
-      real : r ≢ mark
-      real e = let z = P .none-yet e in omega arith
-
--- the first by its key
-module _ {mark : ℕ} {f : ℕ → Bool} {key : ℕ → ℕ} {most m r k : ℕ} (l : m < mark) (h : f m ≡ true) (P : Picking mark (λ a b. leb (key b) (key a)) f key most m r k) where
-  pub earlier : key m ≤ k → Picking mark (λ a b. leb (key b) (key a)) f key most (m + 1) m (key m)
-  earlier q = record {
-    picks = picks-new (turned (by-key key)) h (λ p. let t = P .told (λ e. omega (arith, p .below)) in le-leb (key m) (key r) (omega arith)) (P .picks);
-    none-yet = λ e. absurd (omega arith);
-    told = λ _. refl;
-  }
-
-  pub not-earlier : key m ≤ most → k < key m → Picking mark (λ a b. leb (key b) (key a)) f key most (m + 1) r k
-  not-earlier top q = record {
-    picks = picks-keep (picked-real (P .picks) real) (let t = P .told real in le-leb (key r) (key m) (omega arith));
     none-yet = P .none-yet;
     told = P .told;
   }

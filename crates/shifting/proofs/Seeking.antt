@@ -1,55 +1,66 @@
--- Whether a slot waits and its mask meets some cores, by the tables of first places of the wake order and of the seats.
+-- Whether a slot waits and its mask meets some cores, by the table of the cores on which slots sit.
 use Prim.Native.Nat.{ℕ, _≤_, _<_}
-use mathlib.Core.Path.{_≡_}
+use mathlib.Core.Path.{_≡_, sym, ap, _∙_}
 use mathlib.Core.Logic.{_≢_, inl, inr}
-use mathlib.Core.Bool.{not}
+use mathlib.Core.Bool.{Bool, true, _&&_}
 use mathlib.Core.List.{List}
 use native.Mathlib.Omega.{arith}
 use lib.Bits.{bitAnd}
 use lib.Dec.{eqb}
-use lib.ListN.{getD}
+use lib.ListN.{getD, take, length-take}
+use lib.Seq.{getD-take}
 use Rattle.laws.specs.Decides.{Decides}
-use Rattle.laws.proofs.Deciding.{decides-by, decides-not, decides-and, decides-eq}
-use Rattle.dispatcher.specs.Limits.{coreLimit, slotLimit, none}
-use Rattle.dispatcher.specs.Slots.{taskAt, orderAt, seatAt, Ready, Shaped}
+use Rattle.laws.proofs.Deciding.{decides-same, decides-true, decides-by, decides-not, decides-and, decides-eq}
+use Rattle.laws.proofs.Testing.{and-both}
+use Rattle.dispatcher.specs.Limits.{slotLimit, none}
+use Rattle.dispatcher.specs.Slots.{taskAt, seatAt, Ready, Shaped}
 use Rattle.dispatcher.specs.Sound.{Sound}
 use Rattle.dispatcher.specs.declared.Dispatcher.{Dispatcher}
-use Rattle.order.specs.Places.{FirstAt, FirstPlace, FirstPlaces}
-use Rattle.order.proofs.Waking.{woke-stands}
-use Rattle.order.proofs.Placing.{first-stands, stands-first}
-use Rattle.shifting.proofs.Board.{seat-below}
+use Rattle.dispatcher.proofs.Testing.{readyTest, ready-decides}
+use Rattle.order.specs.Places.{FirstAt, FirstPlace, FirstPlaces, placesOf}
+use Rattle.order.proofs.Placing.{stands-first}
 use Rattle.shifting.specs.Board.{Runs, Waits}
-use Rattle.shifting.specs.Picking.{rankAt, seekTest}
+use Rattle.shifting.specs.Picking.{seekTest}
 
-module _ {d : Dispatcher} {places cores : List ℕ} (L : Shaped d) (S : Sound d) (P : FirstPlaces (d .order) places) (C : FirstPlaces (d .seats) cores) {w : ℕ} (small : w < slotLimit) where
-  stands : FirstPlace (orderAt d) 0 slotLimit w (getD places w 0)
-  stands = rw (L .order) at (P .each w small)
+-- the first places of the seats below the count are the cores on which slots sit
+pub sits-on : {d : Dispatcher} {cores : List ℕ} {w : ℕ} → Shaped d → Sound d → FirstPlaces (take (d .cores) (d .seats)) cores → w < slotLimit → FirstPlace (seatAt d) 0 (d .cores) w (getD cores w 0)
+sits-on {d} {cores} {w} L S C small = go (C .each w small)
+  where
+    few : placesOf (take (d .cores) (d .seats)) ≡ d .cores
+    few = omega (arith, length-take (d .cores) (d .seats), L .seats, S .count .1)
 
-  sits : FirstPlace (seatAt d) 0 coreLimit w (getD cores w 0)
-  sits = rw (L .seats) at (C .each w small)
+    read : (j : ℕ) → j < d .cores → getD (take (d .cores) (d .seats)) j none ≡ seatAt d j
+    read j l = getD-take (d .cores) (d .seats) j none l
 
-  ready-decides : Decides (Ready d w) (not (eqb (getD places w 0) none))
-  ready-decides = decides-by
-      (λ n. let f = first-stands stands n in record { slot = small; place = getD places w 0; within = f .below; stands = f .holds })
-      (λ r. stands-first (omega arith) stands (r .within) (r .stands))
-      (decides-not (decides-eq (getD places w 0) none))
+    go : FirstPlace (λ j. getD (take (d .cores) (d .seats)) j none) 0 (placesOf (take (d .cores) (d .seats))) w (getD cores w 0) → FirstPlace (seatAt d) 0 (d .cores) w (getD cores w 0)
+    go (inl f) =
+        let below : getD cores w 0 < d .cores = omega (arith, f .below, few) in
+        inl (record { from = f .from; below = below; holds = sym (read (getD cores w 0) below) ∙ f .holds; first = λ j a b q. f .first j a b (read j (omega arith) ∙ q) })
+    go (inr f) = inr (record { mark = f .mark; nowhere = λ j a b q. f .nowhere j a (omega (arith, b, few)) (read j b ∙ q) })
 
-  runs : FirstAt (seatAt d) 0 coreLimit w (getD cores w 0) → Runs d w
-  runs f = record { real = λ e. omega arith; core = getD cores w 0; below = seat-below S (f .below) (λ z. omega (arith, f .holds, z)); sits = f .holds }
+abbrev pub waitTest : Dispatcher → List ℕ → ℕ → ℕ → Bool
+waitTest d cores lead w = readyTest d w && seekTest (taskAt d w .mask) (getD cores w 0) lead
 
+module _ {d : Dispatcher} {cores : List ℕ} (L : Shaped d) (S : Sound d) (C : FirstPlaces (take (d .cores) (d .seats)) cores) {w : ℕ} (small : w < slotLimit) where
   off-decides : Decides (Runs d w → ⊥) (eqb (getD cores w 0) none)
-  off-decides = decides-by (λ q r. stands-first (omega arith) sits (omega (arith, r .below, S .count .1)) (r .sits) q) (λ off. go sits off) (decides-eq (getD cores w 0) none)
+  off-decides = decides-by (λ q r. stands-first (omega (arith, S .count .1)) sits (r .below) (r .sits) q) (λ off. go sits off) (decides-eq (getD cores w 0) none)
     where
-      go : FirstPlace (seatAt d) 0 coreLimit w (getD cores w 0) → (Runs d w → ⊥) → getD cores w 0 ≡ none
-      go (inl f) off = absurd (off (runs f))
+      sits : FirstPlace (seatAt d) 0 (d .cores) w (getD cores w 0)
+      sits = sits-on L S C small
+
+      go : FirstPlace (seatAt d) 0 (d .cores) w (getD cores w 0) → (Runs d w → ⊥) → getD cores w 0 ≡ none
+      go (inl f) off = absurd (off (record { real = λ e. omega arith; core = getD cores w 0; below = f .below; sits = f .holds }))
       go (inr f) off = f .mark
 
-  pub seek-tells : (lead : ℕ) → Decides (Waits d w × (bitAnd (taskAt d w .mask) lead ≢ 0)) (seekTest (taskAt d w .mask) (getD places w 0) (getD cores w 0) lead)
-  seek-tells lead = decides-by
+  pub wait-tells : (lead : ℕ) → Decides (Waits d w × (bitAnd (taskAt d w .mask) lead ≢ 0)) (waitTest d cores lead w)
+  wait-tells lead = decides-by
       (λ h. (record { ready = h .0; off = h .1 .0 }, h .1 .1))
       (λ h. (h .0 .ready, (h .0 .off, h .1)))
-      (decides-and ready-decides (decides-and off-decides (decides-not (decides-eq (bitAnd (taskAt d w .mask) lead) 0))))
+      (decides-and (ready-decides d w) (decides-and off-decides (decides-not (decides-eq (bitAnd (taskAt d w .mask) lead) 0))))
 
--- a rank is a small number
-pub rank-small : {d : Dispatcher} {w : ℕ} → Shaped d → Ready d w → rankAt d w ≤ 4294967295
-rank-small L r = omega (arith, woke-stands L r .0)
+pub wait-small : (d : Dispatcher) (cores : List ℕ) (lead w : ℕ) → waitTest d cores lead w ≡ true → w < slotLimit
+wait-small d cores lead w t = ready-decides d w .yes (and-both (readyTest d w) (seekTest (taskAt d w .mask) (getD cores w 0) lead) t .0) .slot
+
+-- of a ready slot the rest of the test tells
+pub ready-test : {d : Dispatcher} {w : ℕ} (cores : List ℕ) (lead : ℕ) → Ready d w → waitTest d cores lead w ≡ seekTest (taskAt d w .mask) (getD cores w 0) lead
+ready-test {d} {w} cores lead r = ap (λ (b : Bool). b && seekTest (taskAt d w .mask) (getD cores w 0) lead) (decides-same (ready-decides d w) (decides-true r))

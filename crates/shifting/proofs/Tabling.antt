@@ -51,7 +51,7 @@ module _ {d : Dispatcher} {i : ℕ} {masks : List ℕ} (l : i < coreLimit) (S : 
       go c h (yes e) = rw e (S .rest i (omega arith) ∙ sym (ap (λ (t : Task). t .mask) (getD-beyond (d .tasks) (seatAt d i) noTask (rw long k))))
       go c h (no e) = S .done c (omega arith)
 
-pub sitters-all : {d : Dispatcher} {i : ℕ} {masks : List ℕ} → coreLimit ≤ i → SittersTo d i masks → SittersOf d masks
+pub sitters-all : {d : Dispatcher} {i : ℕ} {masks : List ℕ} → d .cores ≤ i → SittersTo d i masks → SittersOf d masks
 sitters-all l S = record { each = λ c k. S .done c (omega arith) }
 
 -- ---- the idle cores
@@ -85,5 +85,5 @@ module _ {d : Dispatcher} {i m : ℕ} (l : i < coreLimit) (I : IdleTo d i m) whe
       go c k (yes e) = rw e (I .rest i (omega arith) ∙ sym (ne-eqb (seatAt d i) none q))
       go c k (no e) = I .done c (omega arith)
 
-pub idle-all : {d : Dispatcher} {i m : ℕ} → coreLimit ≤ i → IdleTo d i m → IdleCores d m
+pub idle-all : {d : Dispatcher} {i m : ℕ} → d .cores ≤ i → IdleTo d i m → IdleCores d m
 idle-all l I = record { each = λ c k. I .done c (omega arith) }

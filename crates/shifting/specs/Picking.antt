@@ -29,9 +29,9 @@ pub record Held (d : Dispatcher) (places : List ℕ) (seen : ℕ) : Type 0 where
   pub table : FirstPlaces (d .order) places
   pub ready : (c : ℕ) → c < d .cores → has seen c ≡ true → Ready d (seatAt d c)
 
--- a slot is in the wake order, on no core, and its mask meets the cores in lead
-abbrev pub seekTest : ℕ → ℕ → ℕ → ℕ → Bool
-seekTest mask place core lead = not (eqb place none) && (eqb core none && not (eqb (bitAnd mask lead) 0))
+-- a slot is on no core, and its mask meets the cores in lead
+abbrev pub seekTest : ℕ → ℕ → ℕ → Bool
+seekTest mask core lead = eqb core none && not (eqb (bitAnd mask lead) 0)
 
 -- of the waiting tasks whose mask meets the cores in lead, r is the first; the mark where there is none
 pub record FirstSeeking (d : Dispatcher) (lead r : ℕ) : Type 0 where

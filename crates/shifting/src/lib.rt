@@ -1,7 +1,6 @@
 // Shifts: a waiting task seeks a core, or an idle core seeks a waiting task, along the chain that document 01 chooses. Wake and block are one of them after a change of the wake order.
 ghost use mathlib.Core.Path.{_≡_};
 ghost use Rattle.dispatcher.specs.Sound.{Sound};
-ghost use Rattle.order.specs.Places.{FirstPlaces};
 ghost use Rattle.shifting.specs.Arriving.{Arriving, Pushing};
 ghost use Rattle.shifting.specs.Filling.{Freed};
 ghost use Rattle.shifting.specs.Shifts.{Arrived, Refilled, stillAt, Takable, takenBy};
@@ -17,6 +16,12 @@ pub struct Shift {
     // The slot that started, or NONE, and the slot that stopped, or NONE.
     pub started: u16,
     pub stopped: u16,
+}
+
+// The mask of the task on each core, and 0 for an idle core; and the idle cores, as a mask.
+struct Sitting {
+    masks: [u32; Dispatcher::CORES],
+    idle: u32,
 }
 
 // Nobody moves, starts or stops.
@@ -48,37 +53,26 @@ fn taken(seats: [u16; Dispatcher::CORES], route: Route, slot: u16, stopped: u16)
     }
 }
 
-// The mask of the task on each core, and 0 for an idle core.
-fn sitters(d: Dispatcher) -> [u32; Dispatcher::CORES]
-    ensures { λ r. ⌜ SittersOf d r ⌝ }
+// Who sits where and which cores are idle, of the cores below the count.
+fn sitters(d: Dispatcher) -> Sitting
+    requires { ⌜ Sound d ⌝ }
+    ensures { λ r. ⌜ SittersOf d (r .masks) × IdleCores d (r .idle) ⌝ }
 {
+    let n = d.cores as usize;
     let mut masks = [0u32; Dispatcher::CORES];
+    let mut idle: u32 = 0;
     let mut c: usize = 0;
-    while c < Dispatcher::CORES {
-        let slot = d.seats[c] as usize;
-        if slot < Dispatcher::SLOTS {
-            let t = d.tasks[slot];
+    while c < n {
+        let slot = d.seats[c];
+        if slot == Dispatcher::NONE {
+            idle = masks::add(idle, c);
+        } else {
+            let t = d.tasks[slot as usize];
             masks[c] = t.mask;
         }
         c += 1;
     }
-    masks
-}
-
-// The idle cores, as a mask.
-fn idle_cores(d: Dispatcher) -> u32
-    ensures { λ r. ⌜ IdleCores d r ⌝ }
-{
-    let mut idle: u32 = 0;
-    let mut c: usize = 0;
-    while c < Dispatcher::CORES {
-        let held = d.seats[c];
-        if held == Dispatcher::NONE {
-            idle = masks::add(idle, c);
-        }
-        c += 1;
-    }
-    idle
+    Sitting { masks, idle }
 }
 
 // Of the cores in the mask the one whose task all the others come before, or the core count.
@@ -106,42 +100,40 @@ fn last_on(d: Dispatcher, places: &[u16; Dispatcher::SLOTS], seen: u32) -> usize
     last
 }
 
-// Whether a slot that has this place in the wake order and this core, or NONE, waits and its mask meets the cores.
-fn seeks(mask: u32, place: u16, core: u16, lead: u32) -> bool
-    ensures { λ r. ⌜ r ≡ seekTest mask place core lead ⌝ }
+// Whether a slot that sits on this core, or on none, is off the cores and its mask meets those in lead.
+fn seeks(mask: u32, core: u16, lead: u32) -> bool
+    ensures { λ r. ⌜ r ≡ seekTest mask core lead ⌝ }
 {
-    if place == Dispatcher::NONE {
-        return false;
-    }
     if core != Dispatcher::NONE {
         return false;
     }
     (mask & lead) != 0
 }
 
-// Of the waiting tasks whose mask meets the cores the one that comes before the rest, or NONE.
+// Of the waiting tasks whose mask meets the cores the one that comes before the rest, or NONE: the first of the highest priority along the wake order.
 fn first_seeking(d: Dispatcher, lead: u32) -> u16
     requires { ⌜ Sound d ⌝ }
     ensures { λ r. ⌜ FirstSeeking d lead r ⌝ }
 {
-    let order = d.order;
-    let places = order::first_places(&order);
+    let n = d.cores as usize;
     let seats = d.seats;
-    let cores = order::first_places(&seats);
+    let cores = order::first_places(&seats[..n]);
     let mut first = Dispatcher::NONE;
-    let mut rank: u32 = u32::MAX;
-    let mut s: usize = 0;
-    while s < Dispatcher::SLOTS {
-        let t = d.tasks[s];
-        let place = places[s];
-        if seeks(t.mask, place, cores[s], lead) {
-            let own = order::rank(t.priority, place);
-            if own <= rank {
-                first = s as u16;
-                rank = own;
+    let mut highest: u8 = 0;
+    let mut k: usize = 0;
+    while k < Dispatcher::SLOTS {
+        let slot = d.order[k];
+        if slot == Dispatcher::NONE {
+            return first;
+        }
+        let t = d.tasks[slot as usize];
+        if highest < t.priority {
+            if seeks(t.mask, cores[slot as usize], lead) {
+                first = slot;
+                highest = t.priority;
             }
         }
-        s += 1;
+        k += 1;
     }
     first
 }
@@ -179,8 +171,9 @@ pub fn arrive(d: Dispatcher, slot: u16) -> Shift
     requires { ⌜ Arriving d slot ⌝ }
     ensures { λ r. ⌜ Arrived d slot r ⌝ }
 {
-    let masks = sitters(d);
-    let idle = idle_cores(d);
+    let sitting = sitters(d);
+    let masks = sitting.masks;
+    let idle = sitting.idle;
     let t = d.tasks[slot as usize];
     let n = d.cores as usize;
     let route = search::search(&masks, t.mask, idle, n);
@@ -197,7 +190,8 @@ pub fn fill(d: Dispatcher, core: usize) -> Shift
     ensures { λ r. ⌜ Refilled d core r ⌝ }
 {
     let n = d.cores as usize;
-    let masks = sitters(d);
+    let sitting = sitters(d);
+    let masks = sitting.masks;
     let target = masks::add(0, core);
     let lead = search::leading(&masks, target, n);
     let first = first_seeking(d, lead);

@@ -19,54 +19,46 @@ use Rattle.dispatcher.specs.declared.Answer.the-variants.{NotSound, SlotAbove, 
 use Rattle.dispatcher.specs.declared.Task.{Task}
 use Rattle.dispatcher.specs.declared.Dispatcher.{Dispatcher}
 use Rattle.dispatcher.specs.declared.Outcome.{Outcome}
-use Rattle.dispatcher.proofs.Judging.{Test, test, firstOf, judged}
+use Rattle.dispatcher.proofs.Judging.{Test, test, firstOf, Judges, judged}
 use Rattle.dispatcher.proofs.Testing.{emptyTest, empty-decides, used-decides, readyTest, ready-decides}
 use Rattle.tasks.specs.Table.{withTask, Settles}
 use Rattle.tasks.specs.Named.{namedRefusals}
-use Rattle.tasks.specs.Create.{createRefusals, Creates}
+use Rattle.tasks.specs.Create.{entryRefusals, createRefusals, Creates}
 use Rattle.tasks.specs.Delete.{Deletes}
 use Rattle.tasks.proofs.Settling.{settles-promised}
 
 -- ---- the answers
 
-abbrev pub createTests : Bool → Dispatcher → ℕ → ℕ → ℕ → List Test
-createTests sound d slot priority mask =
-    test (not sound) NotSound ∷
+abbrev pub entryTests : Dispatcher → ℕ → ℕ → ℕ → List Test
+entryTests d slot priority mask =
     test (leb slotLimit slot) SlotAbove ∷
     test (not (emptyTest (taskAt d slot))) SlotInUse ∷
     test (eqb priority 0) PriorityZero ∷
     test (eqb mask 0) MaskEmpty ∷
     test (not (eqb (mask / 2 ^ d .cores) 0)) MissingCore ∷ []
 
+abbrev pub createTests : Bool → Dispatcher → ℕ → ℕ → ℕ → List Test
+createTests sound d slot priority mask = test (not sound) NotSound ∷ entryTests d slot priority mask
+
+entry-judges : (d : Dispatcher) (slot priority mask : ℕ) → Judges 1 (entryRefusals d slot priority mask) (entryTests d slot priority mask)
+entry-judges d slot priority mask = (
+  decides-le slotLimit slot,
+  refl,
+  omega arith,
+  (
+    used-decides (taskAt d slot),
+    refl,
+    omega arith,
+    (decides-eq priority 0, refl, omega arith, (decides-eq mask 0, refl, omega arith, (names-test (d .cores) mask, refl, omega arith, tt))),
+  ),
+)
+
+pub entry-answers : (d : Dispatcher) (slot priority mask : ℕ) → Answers (entryRefusals d slot priority mask) (numberOf (firstOf (entryTests d slot priority mask)))
+entry-answers d slot priority mask = judged 1 (entryRefusals d slot priority mask) (entryTests d slot priority mask) (entry-judges d slot priority mask)
+
 pub create-answers : {b : Bool} (d : Dispatcher) (slot priority mask : ℕ) → Decides (Sound d) b
     → Answers (createRefusals d slot priority mask) (numberOf (firstOf (createTests b d slot priority mask)))
-create-answers {b} d slot priority mask s =
-    judged 0 (createRefusals d slot priority mask) (createTests b d slot priority mask) (
-      decides-not s,
-      refl,
-      omega arith,
-      (
-        decides-le slotLimit slot,
-        refl,
-        omega arith,
-        (
-          used-decides (taskAt d slot),
-          refl,
-          omega arith,
-          (
-            decides-eq priority 0,
-            refl,
-            omega arith,
-            (
-              decides-eq mask 0,
-              refl,
-              omega arith,
-              (names-test (d .cores) mask, refl, omega arith, tt),
-            ),
-          ),
-        ),
-      ),
-    )
+create-answers {b} d slot priority mask s = judged 0 (createRefusals d slot priority mask) (createTests b d slot priority mask) (decides-not s, refl, omega arith, entry-judges d slot priority mask)
 
 -- the tests of every call on the task in a slot, and one more
 abbrev pub namedTests : Bool → Dispatcher → ℕ → List Test → List Test

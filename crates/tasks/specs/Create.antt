@@ -8,14 +8,17 @@ use Rattle.dispatcher.specs.declared.Dispatcher.{Dispatcher}
 use Rattle.dispatcher.specs.declared.Outcome.{Outcome}
 use Rattle.tasks.specs.Table.{Writes}
 
-abbrev pub createRefusals : Dispatcher → ℕ → ℕ → ℕ → List Refusal
-createRefusals d slot priority mask =
-    1 when IsUnsound d ∷
+-- why a sound dispatcher refuses a task
+abbrev pub entryRefusals : Dispatcher → ℕ → ℕ → ℕ → List Refusal
+entryRefusals d slot priority mask =
     3 when IsAbove slot ∷
     4 when IsInUse d slot ∷
     6 when IsPriorityZero priority ∷
     7 when IsMaskEmpty mask ∷
     8 when IsMissingCore d mask ∷ []
+
+abbrev pub createRefusals : Dispatcher → ℕ → ℕ → ℕ → List Refusal
+createRefusals d slot priority mask = 1 when IsUnsound d ∷ entryRefusals d slot priority mask
 
 abbrev pub Creates : Dispatcher → ℕ → ℕ → ℕ → Outcome → Type 0
 Creates d slot priority mask r = Promised (createRefusals d slot priority mask) d (Writes d slot (record { priority = priority; mask = mask })) r

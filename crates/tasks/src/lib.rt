@@ -5,7 +5,7 @@ ghost use Rattle.dispatcher.specs.Limits.{slotLimit};
 ghost use Rattle.dispatcher.specs.Answers.{numberOf, Answers};
 ghost use Rattle.tasks.specs.Table.{Settles};
 ghost use Rattle.tasks.specs.Named.{namedRefusals};
-ghost use Rattle.tasks.specs.Create.{createRefusals, Creates};
+ghost use Rattle.tasks.specs.Create.{entryRefusals, createRefusals, Creates};
 ghost use Rattle.tasks.specs.Delete.{deleteRefusals, Deletes};
 use dispatcher::Answer;
 use dispatcher::Dispatcher;
@@ -13,12 +13,10 @@ use dispatcher::Outcome;
 use dispatcher::Report;
 use dispatcher::Task;
 
-fn create_answer(d: Dispatcher, slot: u16, priority: u8, mask: u32) -> Answer
-    ensures { λ r. ⌜ Answers (createRefusals d slot priority mask) (numberOf r) ⌝ }
+// What a task is refused for where the dispatcher is sound.
+pub fn entry(d: Dispatcher, slot: u16, priority: u8, mask: u32) -> Answer
+    ensures { λ r. ⌜ Answers (entryRefusals d slot priority mask) (numberOf r) ⌝ }
 {
-    if !soundness::sound(d) {
-        return Answer::NotSound;
-    }
     let at = slot as usize;
     if Dispatcher::SLOTS <= at {
         return Answer::SlotAbove;
@@ -38,6 +36,15 @@ fn create_answer(d: Dispatcher, slot: u16, priority: u8, mask: u32) -> Answer
         return Answer::MissingCore;
     }
     Answer::Done
+}
+
+fn create_answer(d: Dispatcher, slot: u16, priority: u8, mask: u32) -> Answer
+    ensures { λ r. ⌜ Answers (createRefusals d slot priority mask) (numberOf r) ⌝ }
+{
+    if !soundness::sound(d) {
+        return Answer::NotSound;
+    }
+    entry(d, slot, priority, mask)
 }
 
 // What every call on the task in a slot refuses first.

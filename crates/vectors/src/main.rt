@@ -67,7 +67,7 @@ fn same_day(file: &[u8], cores: u8, calls: usize, stored: i32) -> bool {
 
 fn same_fault(answer: Answer, offset: usize, stored: i32) -> bool {
     let mut line = [0u8; Line::LONGEST_FAULT];
-    let w = lines::write_fault(answer, offset, &mut line);
+    let w = lines::write_fault(answer.number(), offset, &mut line);
     let length = w.length;
     goes_on(stored, &line[..length])
 }

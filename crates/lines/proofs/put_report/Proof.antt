@@ -6,32 +6,29 @@ use Rattle.lines.proofs.Pieces.{puts-piece, puts-last}
 use Rattle.lines.proofs.put_report.Statement.{statement}
 use Rattle.lines.proofs.put_report.Tie as tie
 
-number-requires : tie.Need-number-requires
-number-requires c κs = search needs
-
 cast-put-number : tie.Need-cast-put-number
 cast-put-number c = search needs
 
 put-number-requires : tie.Need-put-number-requires
-put-number-requires c κs = omega (arith, report-length (c .before .before .before .args .report) (c .number .ensures))
+put-number-requires c κs = omega (arith, report-length (c .before .before .before .args .report))
 
 cast-put-number-2 : tie.Need-cast-put-number-2
 cast-put-number-2 c = search needs
 
 put-number-requires-2 : tie.Need-put-number-requires-2
 put-number-requires-2 c κs =
-    let n = c .before .before .before .before .before in
-    omega (arith, report-length (n .before .before .before .args .report) (n .number .ensures))
+    let e = c .before .before .before .before .before .before .before .before in
+    omega (arith, report-length (e .args .report))
 
 put-slot-requires : tie.Need-put-slot-requires
 put-slot-requires c κs =
-    let n = c .before .before .before .before .before .before .before .before .before in
-    omega (arith, report-length (n .before .before .before .args .report) (n .number .ensures))
+    let e = c .before .before .before .before .before .before .before .before .before .before .before .before in
+    omega (arith, report-length (e .args .report))
 
 put-slot-requires-2 : tie.Need-put-slot-requires-2
 put-slot-requires-2 c κs =
-    let n = c .before .before .before .before .before .before .before .before .before .before .before .before .before in
-    omega (arith, report-length (n .before .before .before .args .report) (n .number .ensures))
+    let e = c .before .before .before .before .before .before .before .before .before .before .before .before .before .before .before .before in
+    omega (arith, report-length (e .args .report))
 
 same-length : tie.Need-same-length
 same-length c = search needs
@@ -42,7 +39,7 @@ returns c =
     let second = third .before .before .before .before in
     let first = second .before .before .before .before .before in
     puts-piece
-    (rw (first .before .number .ensures) at (first .put-number .ensures))
+    (first .put-number .ensures)
     (puts-piece (second .put-number2 .ensures) (puts-piece (third .put-slot .ensures) (λ _. puts-last (c .before .before .put-slot2 .ensures))))
     (first .before .before .before .before .pre)
 
@@ -50,7 +47,6 @@ pub put-report-spec : {M : Type 1} → statement M
 put-report-spec =
     tie.close
     (tie.spec
-    number-requires
     cast-put-number
     put-number-requires
     cast-put-number-2

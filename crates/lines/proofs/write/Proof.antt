@@ -16,7 +16,7 @@ use Rattle.lines.proofs.write.Statement.{statement}
 use Rattle.lines.proofs.write.Tie as tie
 
 wide : (e : tie.Start) → Wide (e .args .line)
-wide e = record { number = omega arith; slot = omega arith; moves = omega arith; started = omega arith; stopped = omega arith }
+wide e = record { number = omega arith; slot = omega arith; answer = omega arith; moves = omega arith; started = omega arith; stopped = omega arith }
 
 many : (e : tie.Start) → length (e .args .d .seats) ≡ coreLimit
 many e = simp length-map at (e .good .1 .0 .1 .1 .1 .1 .1 .0 .1 .0 .1)

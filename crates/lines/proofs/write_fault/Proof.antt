@@ -10,26 +10,22 @@ use Rattle.lines.proofs.Longest.{fault-longest}
 use Rattle.lines.proofs.write_fault.Statement.{statement}
 use Rattle.lines.proofs.write_fault.Tie as tie
 
-room : (c : tie.After-number) → length (faultText (c .number .result) (c .before .before .before .args .offset)) ≤ 36
-room c = fault-longest (c .number .result) (c .before .before .before .args .offset) (omega arith) (omega arith)
+room : (e : tie.Start) → length (faultText (e .args .number) (e .args .offset)) ≤ 36
+room e = fault-longest (e .args .number) (e .args .offset) (omega arith) (omega arith)
 
 slice-aggregate-put-fault : tie.Need-slice-aggregate-put-fault
 slice-aggregate-put-fault c = search needs
 
-number-requires : tie.Need-number-requires
-number-requires c κs = search needs
-
 put-fault-requires : tie.Need-put-fault-requires
-put-fault-requires c κs = room c
+put-fault-requires c κs = room (c .before .before)
 
 slice-aggregate-hand-over : tie.Need-slice-aggregate-hand-over
 slice-aggregate-hand-over c = search needs
 
 hand-over-requires : tie.Need-hand-over-requires
 hand-over-requires c κs =
-    let p = c .before .before .before in
-    let n = p .before in
-    (omega (arith, fault-length (n .number .result) (n .before .before .before .args .offset)), omega (arith, room n))
+    let e = c .before .before .before .before .before .before in
+    (omega (arith, fault-length (e .args .number) (e .args .offset)), omega (arith, room e))
 
 same-length : tie.Need-same-length
 same-length c = search needs
@@ -37,14 +33,13 @@ same-length c = search needs
 returns : tie.Need-returns
 returns c =
     let p = c .before .before .before .before .before .before in
-    rw (← p .before .number .ensures) (rw (puts-read (p .put-fault .ensures)) at (c .before .before .hand-over .ensures))
+    rw (puts-read (p .put-fault .ensures)) at (c .before .before .hand-over .ensures)
 
 pub write-fault-spec : {M : Type 1} → statement M
 write-fault-spec =
     tie.close
     (tie.spec
     slice-aggregate-put-fault
-    number-requires
     put-fault-requires
     slice-aggregate-hand-over
     hand-over-requires

@@ -6,6 +6,9 @@ use Rattle.lines.proofs.Standing.{stands-within}
 use Rattle.replay.proofs.print_fault.Statement.{statement}
 use Rattle.replay.proofs.print_fault.Tie as tie
 
+number-requires : tie.Need-number-requires
+number-requires c κs = search needs
+
 slice-aggregate-write-fault : tie.Need-slice-aggregate-write-fault
 slice-aggregate-write-fault c = search needs
 
@@ -39,6 +42,7 @@ pub print-fault-spec : {M : Type 1} → statement M
 print-fault-spec =
     tie.close
     (tie.spec
+    number-requires
     slice-aggregate-write-fault
     write-fault-requires
     array-share-prefix-line

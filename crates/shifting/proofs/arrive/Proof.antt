@@ -16,9 +16,6 @@ shaped e = record {
 sitters-requires : tie.Need-sitters-requires
 sitters-requires c κs = search needs
 
-idle-cores-requires : tie.Need-idle-cores-requires
-idle-cores-requires c κs = search needs
-
 mul-t : tie.Need-mul-t
 mul-t c = search needs
 
@@ -40,13 +37,13 @@ returns : tie.Need-returns
 returns c =
     let a = c .before .before .before in
     let e = a .before .before .before .before .before in
-    idle-taken (shaped e) (e .pre) (a .before .before .before .before .sitters .ensures) (a .before .before .before .idle-cores .ensures) (searched-found (a .search .ensures) (c .before .before .if1 .taken)) (c .taken .ensures)
+    idle-taken (shaped e) (e .pre) (a .before .before .before .before .sitters .ensures .0) (a .before .before .before .before .sitters .ensures .1) (searched-found (a .search .ensures) (c .before .before .if1 .taken)) (c .taken .ensures)
 
 push-requires : tie.Need-push-requires
 push-requires c κs =
     let a = c .before .before in
     let e = a .before .before .before .before .before in
-    idle-none (shaped e) (e .pre) (a .before .before .before .before .sitters .ensures) (a .before .before .before .idle-cores .ensures) (searched-nowhere (a .search .ensures) (c .before .if1 .left))
+    idle-none (shaped e) (e .pre) (a .before .before .before .before .sitters .ensures .0) (a .before .before .before .before .sitters .ensures .1) (searched-nowhere (a .search .ensures) (c .before .if1 .left))
 
 returns-2 : tie.Need-returns-2
 returns-2 c = c .push .ensures
@@ -56,7 +53,6 @@ arrive-spec =
     tie.close
     (tie.spec
     sitters-requires
-    idle-cores-requires
     mul-t
     element-copy-out-t
     cast-n

@@ -34,8 +34,8 @@ still-requires c κs = search needs
 returns : tie.Need-returns
 returns c =
     let a = c .before .before .before in
-    let e = a .before .before .before .before .before in
-    nobody-starts (shaped e) (e .pre) (a .before .before .before .before .sitters .ensures) (a .before .before .before .add .ensures) (a .before .leading .ensures) (a .first-seeking .ensures) (c .before .if1 .taken) (c .still .ensures)
+    let e = a .before .before .before .before .before .before in
+    nobody-starts (shaped e) (e .pre) (a .before .before .before .before .before .sitters .ensures .0) (a .before .before .before .add .ensures) (a .before .leading .ensures) (a .first-seeking .ensures) (c .before .if1 .taken) (c .still .ensures)
 
 cast-t : tie.Need-cast-t
 cast-t c = search needs
@@ -46,8 +46,8 @@ mul-t c = search needs
 element-copy-out-t : tie.Need-element-copy-out-t
 element-copy-out-t c =
     let a = c .before .before in
-    let e = a .before .before .before .before .before in
-    first-real (shaped e) (e .pre) (a .before .before .before .before .sitters .ensures) (a .before .before .before .add .ensures) (a .before .leading .ensures) (a .first-seeking .ensures) (c .if1 .left) .below
+    let e = a .before .before .before .before .before .before in
+    first-real (shaped e) (e .pre) (a .before .before .before .before .before .sitters .ensures .0) (a .before .before .before .add .ensures) (a .before .leading .ensures) (a .first-seeking .ensures) (c .if1 .left) .below
 
 search-requires : tie.Need-search-requires
 search-requires c κs = search needs
@@ -56,16 +56,16 @@ taken-requires : tie.Need-taken-requires
 taken-requires c κs =
     let i = c .before .before .before in
     let a = i .before .before in
-    let e = a .before .before .before .before .before in
-    takable (e .pre .sound .count .1) (first-found (shaped e) (e .pre) (a .before .before .before .before .sitters .ensures) (a .before .before .before .add .ensures) (a .before .leading .ensures) (a .first-seeking .ensures) (i .if1 .left) (c .search .ensures))
+    let e = a .before .before .before .before .before .before in
+    takable (e .pre .sound .count .1) (first-found (shaped e) (e .pre) (a .before .before .before .before .before .sitters .ensures .0) (a .before .before .before .add .ensures) (a .before .leading .ensures) (a .first-seeking .ensures) (i .if1 .left) (c .search .ensures))
 
 returns-2 : tie.Need-returns-2
 returns-2 c =
     let i = c .before .before .before .before in
     let a = i .before .before in
-    let e = a .before .before .before .before .before in
-    let f = first-found (shaped e) (e .pre) (a .before .before .before .before .sitters .ensures) (a .before .before .before .add .ensures) (a .before .leading .ensures) (a .first-seeking .ensures) (i .if1 .left) (c .before .search .ensures) in
-    first-starts (shaped e) (e .pre) (a .before .before .before .before .sitters .ensures) (a .before .before .before .add .ensures) (a .before .leading .ensures) (a .first-seeking .ensures) (i .if1 .left) f (c .taken .ensures)
+    let e = a .before .before .before .before .before .before in
+    let f = first-found (shaped e) (e .pre) (a .before .before .before .before .before .sitters .ensures .0) (a .before .before .before .add .ensures) (a .before .leading .ensures) (a .first-seeking .ensures) (i .if1 .left) (c .before .search .ensures) in
+    first-starts (shaped e) (e .pre) (a .before .before .before .before .before .sitters .ensures .0) (a .before .before .before .add .ensures) (a .before .leading .ensures) (a .first-seeking .ensures) (i .if1 .left) f (c .taken .ensures)
 
 pub fill-spec : {M : Type 1} → statement M
 fill-spec =

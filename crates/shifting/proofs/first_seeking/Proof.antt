@@ -1,139 +1,181 @@
--- `first_seeking` meets its promise: of the slots below the loop's that wait and whose mask meets the cores, the first is picked.
+-- `first_seeking` meets its promise: of the slots at the passed places of the wake order that wait and whose mask meets the cores, the first is picked.
 use Prim.Native.Nat.{ℕ, _≤_, _<_, _-_}
-use mathlib.Core.Path.{_≡_, sym, _∙_}
-use mathlib.Core.Logic.{_≢_, ⊎-elim}
-use mathlib.Core.Bool.{Bool, true}
+use mathlib.Core.Path.{_≡_, sym, ap, _∙_}
+use mathlib.Core.Logic.{_≢_, _⊎_, inl, inr, ⊎-elim}
+use mathlib.Core.Bool.{true}
 use mathlib.Core.List.{List}
 use native.Mathlib.Omega.{arith}
 use lib.Bits.{bitAnd}
 use lib.Dec.{leb}
-use lib.ListN.{getD, length-map}
+use lib.ListN.{length, getD, length-take, length-map}
 use borrow.Author.Needs.{needs}
+use borrow.Author.Tests.{le-leb}
 use Rattle.laws.specs.Decides.{Decides}
-use Rattle.dispatcher.specs.Limits.{slotLimit, none}
-use Rattle.dispatcher.specs.Slots.{taskAt, Ready, Shaped}
+use Rattle.laws.proofs.Picking.{by-key, turned}
+use Rattle.dispatcher.specs.Limits.{coreLimit, slotLimit, none}
+use Rattle.dispatcher.specs.Slots.{taskAt, orderAt, Ready, Shaped}
 use Rattle.dispatcher.specs.declared.Dispatcher.{Dispatcher}
-use Rattle.order.specs.Ranks.{rankBy}
+use Rattle.dispatcher.proofs.Reading.{order-read}
+use Rattle.order.specs.ComesBefore.{priorityOf}
+use Rattle.order.proofs.Waking.{ready-priority}
 use Rattle.shifting.specs.Board.{Waits}
-use Rattle.shifting.specs.Picking.{rankAt, seekTest}
-use Rattle.shifting.proofs.Picking.{Picking, picking-start, picking-skip, earlier, not-earlier, rank-told}
-use Rattle.shifting.proofs.Seeking.{seek-tells, rank-small}
+use Rattle.shifting.specs.Picking.{rankAt, seekTest, FirstSeeking}
+use Rattle.shifting.proofs.Along.{Along, along-start, along-skip, along-new, along-keep, along-all, stands-ready, stays-ahead, falls-behind, ready-passed}
+use Rattle.shifting.proofs.Seeking.{waitTest, wait-tells, wait-small, ready-test}
 use Rattle.shifting.proofs.first_seeking.Statement.{statement}
 use Rattle.shifting.proofs.first_seeking.Tie as tie
 
-abbrev test : ℕ → Dispatcher → List ℕ → List ℕ → ℕ → Bool
-test lead d places cores w = seekTest (taskAt d w .mask) (getD places w 0) (getD cores w 0) lead
+abbrev FirstTo : Dispatcher → List ℕ → ℕ → ℕ → ℕ → ℕ → Type 0
+FirstTo d cores lead = Along (orderAt d) (λ i. priorityOf d (orderAt d i)) (λ i j. leb (rankAt d (orderAt d j)) (rankAt d (orderAt d i))) (λ i. waitTest d cores lead (orderAt d i)) none 0
 
 abbrev Inv-loop : tie.InvT-loop
-Inv-loop lead d places cores first₀ rank₀ s₀ first rank s = (s ≤ slotLimit) × Picking none (λ a b. leb (rankAt d b) (rankAt d a)) (test lead d places cores) (rankAt d) 4294967295 s first rank
+Inv-loop lead d n cores first₀ highest₀ k₀ first highest k = (k ≤ slotLimit) × FirstTo d cores lead k first highest
 
 abbrev μ-loop : tie.MeasureT-loop
-μ-loop lead d places cores first₀ rank₀ s₀ first rank s = slotLimit - s
+μ-loop lead d n cores first₀ highest₀ k₀ first highest k = slotLimit - k
 
--- at the loop: the dispatcher, and the tables of first places
-module _ (a : tie.After-first-places2 Inv-loop μ-loop) where
+seats-long : (e : tie.Start Inv-loop μ-loop) → length (e .args .t1 .seats) ≡ coreLimit
+seats-long e = simp length-map at (e .good .0 .1 .1 .1 .1 .1 .0 .1 .0 .1)
+
+-- at the loop: the dispatcher, and the cores on which slots sit
+module _ (a : tie.After-first-places Inv-loop μ-loop) where
   abbrev start : tie.Start Inv-loop μ-loop
-  start = a .before .before .before .before .before .before
+  start = a .before .before .before
 
-  abbrev d : Dispatcher
-  d = start .args .t1
-
-  abbrev places : List ℕ
-  places = a .before .before .before .first-places .result
+  abbrev board : Dispatcher
+  board = start .args .t1
 
   abbrev cores : List ℕ
-  cores = a .first-places2 .result
+  cores = a .first-places .result
 
-  shaped : Shaped d
+  shaped : Shaped board
   shaped = record {
     tasks = simp length-map at (start .good .0 .1 .1 .1 .0 .1 .0 .1);
     order = simp length-map at (start .good .0 .1 .1 .1 .1 .0 .1 .0 .1);
-    seats = simp length-map at (start .good .0 .1 .1 .1 .1 .1 .0 .1 .0 .1);
+    seats = seats-long start;
   }
 
-  tells : (w : ℕ) → w < slotLimit → Decides (Waits d w × (bitAnd (taskAt d w .mask) (start .args .lead) ≢ 0)) (test (start .args .lead) d places cores w)
-  tells w l = seek-tells shaped (start .pre) (a .before .before .before .first-places .ensures) (a .first-places2 .ensures) l (start .args .lead)
+  -- where the order ends
+  picked : {k first highest : ℕ} → k ≤ slotLimit → (slotLimit ≤ k) ⊎ (orderAt board k ≡ none) → FirstTo board cores (start .args .lead) k first highest → FirstSeeking board (start .args .lead) first
+  picked l end A = record {
+    test = waitTest board cores (start .args .lead);
+    tells = told;
+    picks = along-all slotLimit (omega arith) (λ i b. wait-small board cores (start .args .lead) (orderAt board i)) (λ w b t. ready-passed shaped (start .pre) end (told w b .yes t .0 .ready)) A;
+  }
+    where
+      told : (w : ℕ) → w < slotLimit → Decides (Waits board w × (bitAnd (taskAt board w .mask) (start .args .lead) ≢ 0)) (waitTest board cores (start .args .lead) w)
+      told w b = wait-tells shaped (start .pre) (a .first-places .ensures) b (start .args .lead)
 
-  -- a slot that passes the test is ready, and its rank is what is computed
-  ready : (w : ℕ) → w < slotLimit → test (start .args .lead) d places cores w ≡ true → Ready d w
-  ready w l t = tells w l .yes t .0 .ready
+cast-n : tie.Need-cast-n Inv-loop μ-loop
+cast-n c = search needs
 
-  rank-is : (w : ℕ) {its : ℕ} → w < slotLimit → test (start .args .lead) d places cores w ≡ true → its ≡ rankBy (taskAt d w .priority) (getD places w 0) → its ≡ rankAt d w
-  rank-is w l t q = rank-told (a .before .before .before .first-places .ensures) (ready w l t) q
+array-share-prefix-seats : tie.Need-array-share-prefix-seats Inv-loop μ-loop
+array-share-prefix-seats c = omega (arith, seats-long (c .before), c .before .pre .count .1)
 
 slice-aggregate-first-places : tie.Need-slice-aggregate-first-places Inv-loop μ-loop
-slice-aggregate-first-places c = search needs
+slice-aggregate-first-places c = omega (arith, seats-long (c .before .before), c .before .before .pre .count .1, length-take (c .before .before .args .t1 .cores) (c .before .before .args .t1 .seats))
 
 first-places-requires : tie.Need-first-places-requires Inv-loop μ-loop
 first-places-requires c κs = search needs
 
-slice-aggregate-first-places-2 : tie.Need-slice-aggregate-first-places-2 Inv-loop μ-loop
-slice-aggregate-first-places-2 c = search needs
-
-first-places-requires-2 : tie.Need-first-places-requires-2 Inv-loop μ-loop
-first-places-requires-2 c κs = search needs
-
 loop-holds : tie.Need-loop-holds Inv-loop μ-loop
-loop-holds c = (omega arith, picking-start)
+loop-holds c = (omega arith, along-start)
+
+mul-slot : tie.Need-mul-slot Inv-loop μ-loop
+mul-slot c = search needs
+
+element-copy-out-slot : tie.Need-element-copy-out-slot Inv-loop μ-loop
+element-copy-out-slot c = search needs
+
+-- in a turn of the loop that finds a slot
+module _ (e : tie.Else1 Inv-loop μ-loop) where
+  abbrev at-loop : tie.After-first-places Inv-loop μ-loop
+  at-loop = e .before .before .before .before
+
+  abbrev d : Dispatcher
+  d = board at-loop
+
+  abbrev place : ℕ
+  place = e .before .before .before .loop .k
+
+  abbrev slot : ℕ
+  slot = getD (d .order) place 0
+
+  read : orderAt d place ≡ slot
+  read = order-read d place (shaped at-loop .order) (e .before .before .loop-test .taken)
+
+  held : orderAt d place ≢ none
+  held q = e .if1 .left (sym read ∙ q)
+
+  ready : Ready d slot
+  ready = rw read at (stands-ready (shaped at-loop) (start at-loop .pre) (e .before .before .loop-test .taken) held)
+
+  small : slot < slotLimit
+  small = ready .slot
+
+  weight : priorityOf d (orderAt d place) ≡ taskAt d slot .priority
+  weight = ap (priorityOf d) read
+
+  test : waitTest d (cores at-loop) (start at-loop .args .lead) (orderAt d place) ≡ seekTest (taskAt d slot .mask) (getD (cores at-loop) slot 0) (start at-loop .args .lead)
+  test = ap (waitTest d (cores at-loop) (start at-loop .args .lead)) read ∙ ready-test (cores at-loop) (start at-loop .args .lead) ready
+
+cast-t : tie.Need-cast-t Inv-loop μ-loop
+cast-t c = search needs
 
 mul-t : tie.Need-mul-t Inv-loop μ-loop
-mul-t c = search needs
+mul-t c = omega (arith, small c)
 
 element-copy-out-t : tie.Need-element-copy-out-t Inv-loop μ-loop
-element-copy-out-t c = search needs
+element-copy-out-t c = small c
 
-mul-place : tie.Need-mul-place Inv-loop μ-loop
-mul-place c = search needs
-
-array-read-place : tie.Need-array-read-place Inv-loop μ-loop
-array-read-place c = search needs
+cast-seeks : tie.Need-cast-seeks Inv-loop μ-loop
+cast-seeks c = search needs
 
 mul-seeks : tie.Need-mul-seeks Inv-loop μ-loop
-mul-seeks c = search needs
+mul-seeks c = omega (arith, small (c .before .before .before))
 
 array-read-seeks : tie.Need-array-read-seeks Inv-loop μ-loop
-array-read-seeks c = search needs
+array-read-seeks c = small (c .before .before .before)
 
 seeks-requires : tie.Need-seeks-requires Inv-loop μ-loop
 seeks-requires c κs = search needs
 
-rank-requires : tie.Need-rank-requires Inv-loop μ-loop
-rank-requires c κs = search needs
-
-cast-first : tie.Need-cast-first Inv-loop μ-loop
-cast-first c = search needs
-
-add-s : tie.Need-add-s Inv-loop μ-loop
-add-s c = search needs
+add-k : tie.Need-add-k Inv-loop μ-loop
+add-k c = search needs
 
 loop-less : tie.Need-loop-less Inv-loop μ-loop
 loop-less c = search needs
 
 loop-again : tie.Need-loop-again Inv-loop μ-loop
 loop-again c =
-    let i = c .before .before .before in
-    let l = i .before .loop in
-    let a = i .before .before in
-    let small = i .loop-test .taken in
-    let passes : c .before .seeks .result ≡ true → test (start a .args .lead) (d a) (places a) (cores a) (l .s) ≡ true = λ y. sym (c .before .seeks .ensures) ∙ y in (
+    let e = c .before .before .before in
+    let l = e .before .before .before .loop in
+    let L = shaped (at-loop e) in
+    let S = start (at-loop e) .pre in
+    let low = e .before .before .loop-test .taken in
+    let rank : ℕ → ℕ = λ i. rankAt (d e) (orderAt (d e) i) in (
       omega arith,
       ⊎-elim
-          (λ w. let told = rank-is a (l .s) small (passes (w .0 .taken)) (w .1 .ensures) in
-          rw (w .3, w .4 ∙ told) (earlier (omega arith) (passes (w .0 .taken)) (l .inv .1) (omega (arith, w .2 .taken, told))))
+          (λ w. rw (w .3 ∙ sym (read e), w .4 ∙ sym (weight e))
+          (along-new (l .inv .1) (omega arith) (turned (by-key rank)) (test e ∙ sym (w .1 .ensures) ∙ w .2 .taken)
+          (λ p b t q. le-leb (rank (place e)) (rank p) (omega (arith, falls-behind L S b low (held e) (omega (arith, q, weight e, w .0 .taken)))))))
           (⊎-elim
-          (λ w. let told = rank-is a (l .s) small (passes (w .0 .taken)) (w .1 .ensures) in
-          rw (w .3, w .4) (not-earlier (omega arith) (passes (w .0 .taken)) (l .inv .1) (rank-small (shaped a) (ready a (l .s) small (passes (w .0 .taken)))) (omega (arith, w .2 .left, told))))
-          (λ w. rw (w .1, w .2) (picking-skip (sym (c .before .seeks .ensures) ∙ w .0 .left) (l .inv .1))))
-          (c .if1 .came),
+          (λ w. rw (w .3, w .4) (along-skip (l .inv .1) (test e ∙ sym (w .1 .ensures) ∙ w .2 .left)))
+          (λ w. rw (w .1, w .2)
+          (along-keep (l .inv .1) (λ z. omega (arith, z, w .0 .left, ready-priority S (ready e) .0))
+          (λ _ p b t q. le-leb (rank p) (rank (place e)) (omega (arith, stays-ahead L S b low (held e) (omega (arith, q, weight e, w .0 .left))))))))
+          (c .if2 .came),
     )
-
-at-end : (c : tie.After-loop Inv-loop μ-loop) → c .before .loop .s ≡ slotLimit
-at-end c = omega (arith, c .loop-test .left, c .before .loop .inv .0)
 
 returns : tie.Need-returns Inv-loop μ-loop
 returns c =
-    let a = c .before .before in
-    record { test = test (start a .args .lead) (d a) (places a) (cores a); tells = tells a; picks = rw (at-end c) at (c .before .loop .inv .1 .picks) }
+    let i = c .before .before in
+    let a = i .before .before in
+    let read = order-read (board a) (i .before .loop .k) (shaped a .order) (i .loop-test .taken) in
+    picked a (i .before .loop .inv .0) (inr (read ∙ c .if1 .taken)) (i .before .loop .inv .1)
+
+returns-2 : tie.Need-returns-2 Inv-loop μ-loop
+returns-2 c = picked (c .before .before) (c .before .loop .inv .0) (inl (c .loop-test .left)) (c .before .loop .inv .1)
 
 pub first-seeking-spec : {M : Type 1} → statement M
 first-seeking-spec =
@@ -141,21 +183,22 @@ first-seeking-spec =
     (tie.spec
     Inv-loop
     μ-loop
+    cast-n
+    array-share-prefix-seats
     slice-aggregate-first-places
     first-places-requires
-    slice-aggregate-first-places-2
-    first-places-requires-2
     loop-holds
+    mul-slot
+    element-copy-out-slot
+    returns
+    cast-t
     mul-t
     element-copy-out-t
-    mul-place
-    array-read-place
+    cast-seeks
     mul-seeks
     array-read-seeks
     seeks-requires
-    rank-requires
-    cast-first
-    add-s
+    add-k
     loop-less
     loop-again
-    returns)
+    returns-2)

@@ -1,0 +1,7 @@
+mod Refusing
+mod Filling
+mod Advancing
+pub mod Same
+pub mod Creating
+pub mod Keeping
+pub mod Model
