@@ -1,12 +1,9 @@
-// The wake order: the first place of each slot in it, a slot that joins it or leaves it, and the rank by which one task comes before another.
+// The wake order: the first place of each slot in it, and a slot that joins it or leaves it.
 ghost use mathlib.Core.Path.{_≡_};
 ghost use Rattle.order.specs.Places.{FirstPlaces};
 ghost use Rattle.order.specs.ComesBefore.{placeIn};
 ghost use Rattle.order.specs.Changes.{joinOrder, leaveOrder};
-ghost use Rattle.order.specs.Ranks.{rankBy};
 use dispatcher::Dispatcher;
-
-const GREATEST_PRIORITY: u8 = 255;
 
 // For each slot the first place of the list at which it stands, or NONE: what was seen is marked, and no two places are compared.
 // Places from SLOTS on are not looked at.
@@ -69,12 +66,4 @@ pub fn leave(order: [u16; Dispatcher::SLOTS], slot: u16) -> [u16; Dispatcher::SL
     }
     next[k] = Dispatcher::NONE;
     next
-}
-
-// One number for a priority and a place, so that of two ready tasks the one of lower rank comes before.
-pub fn rank(priority: u8, place: u16) -> u32
-    ensures { λ r. ⌜ r ≡ rankBy priority place ⌝ }
-{
-    let below = (GREATEST_PRIORITY - priority) as u32;
-    below * (Dispatcher::SLOTS as u32) + (place as u32)
 }

@@ -4,6 +4,7 @@ use mathlib.Core.Path.{_≡_, refl, ap, _∙_}
 use mathlib.Core.Logic.{_≢_, _⊎_, inl, inr}
 use mathlib.Core.Bool.{true, false}
 use mathlib.Core.List.{List}
+use native.Mathlib.Decide.{decLt}
 use native.Mathlib.Omega.{arith}
 use lib.Dec.{eqb, leb}
 use Rattle.laws.specs.Pick.{Picked}
@@ -15,11 +16,13 @@ use Rattle.seating.specs.Reached.{Reached}
 use Rattle.seating.specs.Arrival.{NoIdle}
 use Rattle.seating.proofs.Choice.{unreached-target}
 use Rattle.seating.proofs.Arriving.{no-idle, to-idle, Tells, pushes, waits}
+use Rattle.seating.proofs.Ranks.{reached-below}
 use Rattle.seating.proofs.Filling.{Seeks, fills, stays-idle}
 use Rattle.dispatcher.specs.Limits.{slotLimit, none}
 use Rattle.dispatcher.specs.Slots.{taskAt, seatAt, Ready, Shaped}
 use Rattle.dispatcher.specs.declared.Dispatcher.{Dispatcher}
-use Rattle.order.specs.Places.{FirstPlaces}
+use Rattle.order.specs.ComesBefore.{ComesBefore}
+use Rattle.order.proofs.Ranking.{rank-before, before-rank}
 use Rattle.search.specs.Route.{Found, Nowhere, Searched}
 use Rattle.search.specs.ReachedCores.{ReachedCores}
 use Rattle.search.specs.Leading.{Leading}
@@ -66,12 +69,8 @@ module _ {d : Dispatcher} {masks : List ℕ} {x : ℕ} (L : Shaped d) (A : Arriv
     told : Tells (d .cores) none (mayRun d) (seatAt d) x (has seen)
     told = record { only = λ c h. reaches-tasks M x (R .only c h); all = λ c r. R .all c (tasks-reaches M r) }
 
-    pub reached-held : {places : List ℕ} → FirstPlaces (d .order) places → Held d places seen
-    reached-held F = record {
-      few = A .sound .count .1;
-      table = F;
-      ready = λ c l h. A .sound .seats c (core-below (A .sound) l) (full .held c (told .only c h)) .ready;
-    }
+    pub reached-held : Held d seen
+    reached-held = record { sound = A .sound; below = λ c h. reached-below (told .only c h); held = λ c h. full .held c (told .only c h) }
 
     module _ {z : ℕ} (P : LastOn d seen z) where
       -- a core is picked
@@ -81,19 +80,23 @@ module _ {d : Dispatcher} {masks : List ℕ} {x : ℕ} (L : Shaped d) (A : Arriv
       pub last-ready : z ≢ d .cores → Ready d (seatAt d z)
       last-ready h = let p = last-real h in A .sound .seats z (core-below (A .sound) (p .below)) (full .held z (told .only z (p .passes))) .ready
 
-      pub must-wait : {r : Shift} → (z < d .cores → rankAt d (seatAt d z) ≤ rankAt d x) → r ≡ stillAt (d .seats) → Arrived d x r
-      must-wait h q = rw q (waits (legal (A .sound)) (ranked L (A .sound)) (A .waits .ready) full told P h)
+      pub must-wait : {r : Shift} → (z < d .cores → ComesBefore d x (seatAt d z) → ⊥) → r ≡ stillAt (d .seats) → Arrived d x r
+      must-wait h q = rw q (waits (legal (A .sound)) (ranked L (A .sound)) (A .waits .ready) full told P (λ l. go l (decLt (rankAt d x) (rankAt d (seatAt d z)))))
+        where
+          go : z < d .cores → Dec (rankAt d x < rankAt d (seatAt d z)) → rankAt d (seatAt d z) ≤ rankAt d x
+          go l (yes k) = absurd (h l (before-rank (A .sound) L (A .waits .ready) (last-ready (λ e. omega arith)) k))
+          go l (no k) = omega arith
 
       -- its core is reached, so a chain to it is found
       pub loser-found : {target : ℕ} {route : Route} → z ≢ d .cores → has target z ≡ true → Searched (d .cores) masks (taskAt d x .mask) target route → Found (d .cores) masks (taskAt d x .mask) target route
       loser-found h t (inl F) = F
       loser-found h t (inr N) = absurd (reached-none M N t (told .only z (last-real h .passes)))
 
-      pub loser-pushed : {target v : ℕ} {route : Route} {r : Shift} → z ≢ d .cores → Added 0 z target → rankAt d x < rankAt d (seatAt d z) → Found (d .cores) masks (taskAt d x .mask) target route
+      pub loser-pushed : {target v : ℕ} {route : Route} {r : Shift} → z ≢ d .cores → Added 0 z target → ComesBefore d x (seatAt d z) → Found (d .cores) masks (taskAt d x .mask) target route
           → seatAt d z ≡ v → r ≡ takenBy (d .seats) route x v → Arrived d x r
-      loser-pushed h a l F e q =
+      loser-pushed h a b F e q =
           let p = last-real h in
-          rw (q, ← e) (pushes (legal (A .sound)) (ranked L (A .sound)) (A .waits .ready) full told p l
+          rw (q, ← e) (pushes (legal (A .sound)) (ranked L (A .sound)) (A .waits .ready) full told p (rank-before (A .sound) L (A .waits .ready) (last-ready h) b)
           (found-shift L (A .sound) T F (λ c. eqb c z) (λ c k. only-core (core-below (A .sound) (p .below)) a c)))
 
 -- ---- a core is filled

@@ -1,6 +1,6 @@
 mod Tabling
-mod Picking
 mod Along
+mod Cores
 mod Seeking
 mod Deciding
 pub mod Board

@@ -1,14 +1,13 @@
 -- Whether a slot waits and its mask meets some cores, by the table of the cores on which slots sit.
-use Prim.Native.Nat.{ℕ, _≤_, _<_}
-use mathlib.Core.Path.{_≡_, sym, ap, _∙_}
+use Prim.Native.Nat.{ℕ, _<_}
+use mathlib.Core.Path.{_≡_, ap}
 use mathlib.Core.Logic.{_≢_, inl, inr}
 use mathlib.Core.Bool.{Bool, true, _&&_}
 use mathlib.Core.List.{List}
 use native.Mathlib.Omega.{arith}
 use lib.Bits.{bitAnd}
 use lib.Dec.{eqb}
-use lib.ListN.{getD, take, length-take}
-use lib.Seq.{getD-take}
+use lib.ListN.{getD, take}
 use Rattle.laws.specs.Decides.{Decides}
 use Rattle.laws.proofs.Deciding.{decides-same, decides-true, decides-by, decides-not, decides-and, decides-eq}
 use Rattle.laws.proofs.Testing.{and-both}
@@ -17,26 +16,11 @@ use Rattle.dispatcher.specs.Slots.{taskAt, seatAt, Ready, Shaped}
 use Rattle.dispatcher.specs.Sound.{Sound}
 use Rattle.dispatcher.specs.declared.Dispatcher.{Dispatcher}
 use Rattle.dispatcher.proofs.Testing.{readyTest, ready-decides}
-use Rattle.order.specs.Places.{FirstAt, FirstPlace, FirstPlaces, placesOf}
+use Rattle.order.specs.Places.{FirstPlace, FirstPlaces}
 use Rattle.order.proofs.Placing.{stands-first}
 use Rattle.shifting.specs.Board.{Runs, Waits}
 use Rattle.shifting.specs.Picking.{seekTest}
-
--- the first places of the seats below the count are the cores on which slots sit
-pub sits-on : {d : Dispatcher} {cores : List ℕ} {w : ℕ} → Shaped d → Sound d → FirstPlaces (take (d .cores) (d .seats)) cores → w < slotLimit → FirstPlace (seatAt d) 0 (d .cores) w (getD cores w 0)
-sits-on {d} {cores} {w} L S C small = go (C .each w small)
-  where
-    few : placesOf (take (d .cores) (d .seats)) ≡ d .cores
-    few = omega (arith, length-take (d .cores) (d .seats), L .seats, S .count .1)
-
-    read : (j : ℕ) → j < d .cores → getD (take (d .cores) (d .seats)) j none ≡ seatAt d j
-    read j l = getD-take (d .cores) (d .seats) j none l
-
-    go : FirstPlace (λ j. getD (take (d .cores) (d .seats)) j none) 0 (placesOf (take (d .cores) (d .seats))) w (getD cores w 0) → FirstPlace (seatAt d) 0 (d .cores) w (getD cores w 0)
-    go (inl f) =
-        let below : getD cores w 0 < d .cores = omega (arith, f .below, few) in
-        inl (record { from = f .from; below = below; holds = sym (read (getD cores w 0) below) ∙ f .holds; first = λ j a b q. f .first j a b (read j (omega arith) ∙ q) })
-    go (inr f) = inr (record { mark = f .mark; nowhere = λ j a b q. f .nowhere j a (omega (arith, b, few)) (read j b ∙ q) })
+use Rattle.shifting.proofs.Cores.{sits-on}
 
 abbrev pub waitTest : Dispatcher → List ℕ → ℕ → ℕ → Bool
 waitTest d cores lead w = readyTest d w && seekTest (taskAt d w .mask) (getD cores w 0) lead

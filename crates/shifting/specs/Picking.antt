@@ -1,7 +1,7 @@
 -- The last task on some cores, and the first waiting task that reaches some cores.
-use Prim.Native.Nat.{ℕ, _≤_, _<_}
+use Prim.Native.Nat.{ℕ, _<_}
 use mathlib.Core.Path.{_≡_}
-use mathlib.Core.Logic.{_≢_}
+use mathlib.Core.Logic.{_≢_, _⊎_}
 use mathlib.Core.Bool.{Bool, true, not, _&&_}
 use mathlib.Core.List.{List}
 use lib.Bits.{bitAnd}
@@ -9,11 +9,11 @@ use lib.Dec.{eqb, leb}
 use Rattle.laws.specs.Decides.{Decides}
 use Rattle.laws.specs.Pick.{Picks}
 use Rattle.masks.specs.Masks.{has}
-use Rattle.dispatcher.specs.Limits.{coreLimit, slotLimit, none}
-use Rattle.dispatcher.specs.Slots.{taskAt, seatAt, Ready}
+use Rattle.dispatcher.specs.Limits.{slotLimit, none}
+use Rattle.dispatcher.specs.Slots.{taskAt, seatAt}
+use Rattle.dispatcher.specs.Sound.{Sound}
 use Rattle.dispatcher.specs.declared.Dispatcher.{Dispatcher}
-use Rattle.order.specs.ComesBefore.{priorityOf, wokeAt}
-use Rattle.order.specs.Places.{FirstPlaces}
+use Rattle.order.specs.ComesBefore.{placeIn, priorityOf, wokeAt}
 use Rattle.order.specs.Ranks.{rankBy}
 use Rattle.shifting.specs.Board.{Waits}
 
@@ -24,10 +24,15 @@ rankAt d t = rankBy (priorityOf d t) (wokeAt d t)
 abbrev pub LastOn : Dispatcher → ℕ → ℕ → Type 0
 LastOn d seen r = Picks (d .cores) (λ a b. leb (rankAt d (seatAt d a)) (rankAt d (seatAt d b))) (has seen) (d .cores) r
 
-pub record Held (d : Dispatcher) (places : List ℕ) (seen : ℕ) : Type 0 where
-  pub few : d .cores ≤ coreLimit
-  pub table : FirstPlaces (d .order) places
-  pub ready : (c : ℕ) → c < d .cores → has seen c ≡ true → Ready d (seatAt d c)
+-- the cores in the mask are below the count, and held
+pub record Held (d : Dispatcher) (seen : ℕ) : Type 0 where
+  pub sound : Sound d
+  pub below : (c : ℕ) → has seen c ≡ true → c < d .cores
+  pub held : (c : ℕ) → has seen c ≡ true → seatAt d c ≢ none
+
+-- the task of priority p in slot t comes before that of priority q in slot u, by this wake order
+abbrev pub Precedes : List ℕ → ℕ → ℕ → ℕ → ℕ → Type 0
+Precedes order t p u q = (q < p) ⊎ ((p ≡ q) × (placeIn order t < placeIn order u))
 
 -- a slot is on no core, and its mask meets the cores in lead
 abbrev pub seekTest : ℕ → ℕ → ℕ → Bool

@@ -1,11 +1,12 @@
 // Shifts: a waiting task seeks a core, or an idle core seeks a waiting task, along the chain that document 01 chooses. Wake and block are one of them after a change of the wake order.
 ghost use mathlib.Core.Path.{_≡_};
+ghost use Rattle.laws.specs.Decides.{Decides};
 ghost use Rattle.dispatcher.specs.Sound.{Sound};
 ghost use Rattle.shifting.specs.Arriving.{Arriving, Pushing};
 ghost use Rattle.shifting.specs.Filling.{Freed};
 ghost use Rattle.shifting.specs.Shifts.{Arrived, Refilled, stillAt, Takable, takenBy};
 ghost use Rattle.shifting.specs.Tables.{SittersOf, IdleCores};
-ghost use Rattle.shifting.specs.Picking.{LastOn, Held, seekTest, FirstSeeking};
+ghost use Rattle.shifting.specs.Picking.{LastOn, Held, Precedes, seekTest, FirstSeeking};
 use dispatcher::Dispatcher;
 use search::Route;
 
@@ -75,32 +76,57 @@ fn sitters(d: Dispatcher) -> Sitting
     Sitting { masks, idle }
 }
 
-// Of the cores in the mask the one whose task all the others come before, or the core count.
-fn last_on(d: Dispatcher, places: &[u16; Dispatcher::SLOTS], seen: u32) -> usize
-    requires { ⌜ Held d (now places) seen ⌝ }
+// Of the cores in the mask the one whose task all the others come before, or the core count: the last of the lowest priority along the wake order.
+fn last_on(d: Dispatcher, seen: u32) -> usize
+    requires { ⌜ Held d seen ⌝ }
     ensures { λ r. ⌜ LastOn d seen r ⌝ }
 {
     let n = d.cores as usize;
+    let seats = d.seats;
+    let cores = order::first_places(&seats[..n]);
     let mut last = n;
-    let mut rank: u32 = 0;
-    let mut c: usize = 0;
-    while c < n {
-        if masks::has(seen, c) {
-            let slot = d.seats[c] as usize;
-            let t = d.tasks[slot];
-            let place = places[slot];
-            let its = order::rank(t.priority, place);
-            if rank <= its {
-                last = c;
-                rank = its;
+    let mut lowest: u8 = u8::MAX;
+    let mut k: usize = 0;
+    while k < Dispatcher::SLOTS {
+        let slot = d.order[k];
+        if slot == Dispatcher::NONE {
+            return last;
+        }
+        let t = d.tasks[slot as usize];
+        if t.priority <= lowest {
+            let core = cores[slot as usize] as usize;
+            if masks::has(seen, core) {
+                last = core;
+                lowest = t.priority;
             }
         }
-        c += 1;
+        k += 1;
     }
     last
 }
 
-// Whether a slot that sits on this core, or on none, is off the cores and its mask meets those in lead.
+// Whether the task in the slot comes before the other one, each with its priority: among equals the one that is found first in the wake order.
+fn comes_before(order: &[u16], slot: u16, priority: u8, other: u16, its: u8) -> bool
+    ensures { λ r. ⌜ Decides (Precedes (now (order .entry)) slot priority other its) r ⌝ }
+{
+    if priority != its {
+        return its < priority;
+    }
+    let mut k: usize = 0;
+    while k < order.len() {
+        let stands = order[k];
+        if stands == other {
+            return false;
+        }
+        if stands == slot {
+            return true;
+        }
+        k += 1;
+    }
+    false
+}
+
+// Whether a task that sits on this core, or on NONE, sits on none and its mask meets the cores in lead.
 fn seeks(mask: u32, core: u16, lead: u32) -> bool
     ensures { λ r. ⌜ r ≡ seekTest mask core lead ⌝ }
 {
@@ -144,21 +170,16 @@ fn push(d: Dispatcher, masks: &[u32; Dispatcher::CORES], slot: u16) -> Shift
     ensures { λ r. ⌜ Arrived d slot r ⌝ }
 {
     let n = d.cores as usize;
-    let at = slot as usize;
-    let t = d.tasks[at];
-    let order = d.order;
-    let places = order::first_places(&order);
+    let t = d.tasks[slot as usize];
     let seen = search::reached(masks, t.mask, n);
-    let last = last_on(d, &places, seen);
+    let last = last_on(d, seen);
     let seats = d.seats;
     if last == n {
         return still(seats);
     }
     let v = seats[last];
     let loser = d.tasks[v as usize];
-    let place = places[at];
-    let its = places[v as usize];
-    if order::rank(loser.priority, its) <= order::rank(t.priority, place) {
+    if !comes_before(&d.order, slot, t.priority, v, loser.priority) {
         return still(seats);
     }
     let target = masks::add(0, last);

@@ -1,1 +1,4 @@
+mod Holding
+mod Entering
+mod Sitting
 mod Keeping

@@ -1,1 +1,3 @@
 pub mod Found
+pub mod Parts
+pub mod Entries

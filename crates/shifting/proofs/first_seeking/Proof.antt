@@ -2,7 +2,6 @@
 use Prim.Native.Nat.{ℕ, _≤_, _<_, _-_}
 use mathlib.Core.Path.{_≡_, sym, ap, _∙_}
 use mathlib.Core.Logic.{_≢_, _⊎_, inl, inr, ⊎-elim}
-use mathlib.Core.Bool.{true}
 use mathlib.Core.List.{List}
 use native.Mathlib.Omega.{arith}
 use lib.Bits.{bitAnd}
@@ -156,7 +155,8 @@ loop-again c =
     let rank : ℕ → ℕ = λ i. rankAt (d e) (orderAt (d e) i) in (
       omega arith,
       ⊎-elim
-          (λ w. rw (w .3 ∙ sym (read e), w .4 ∙ sym (weight e))
+          (λ w. let told : c .if2 .highest ≡ priorityOf (d e) (orderAt (d e) (place e)) = omega (arith, w .4, weight e) in
+          rw (w .3 ∙ sym (read e), told)
           (along-new (l .inv .1) (omega arith) (turned (by-key rank)) (test e ∙ sym (w .1 .ensures) ∙ w .2 .taken)
           (λ p b t q. le-leb (rank (place e)) (rank p) (omega (arith, falls-behind L S b low (held e) (omega (arith, q, weight e, w .0 .taken)))))))
           (⊎-elim

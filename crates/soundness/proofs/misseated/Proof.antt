@@ -1,117 +1,92 @@
--- `misseated` meets its promise: all cores below the loop's are kept, and the tables of first places decide the core at hand.
+-- `misseated` meets its promise: the slots on all cores below the loop's fit, and the marks tell who sits there.
 use Prim.Native.Nat.{ℕ, _≤_, _<_, _-_}
 use mathlib.Core.Path.{_≡_}
-use mathlib.Core.Logic.{_≢_, ⊎-elim}
-use mathlib.Core.Bool.{Bool, true}
+use mathlib.Core.Logic.{⊎-elim}
+use mathlib.Core.Bool.{Bool, true, false}
+use mathlib.Core.List.{List}
 use native.Mathlib.Omega.{arith}
-use lib.ListN.{length, getD, length-map}
+use lib.ListN.{getD}
 use borrow.Author.Needs.{needs}
 use borrow.Author.Count.{below-more}
 use borrow.Author.Tests.{not-true, not-false}
 use Rattle.laws.specs.Decides.{Decides}
+use Rattle.laws.proofs.Lists.{getD-any}
 use Rattle.masks.specs.Masks.{has}
-use Rattle.dispatcher.specs.Limits.{coreLimit, slotLimit, none}
-use Rattle.dispatcher.specs.Slots.{taskAt, seatAt}
-use Rattle.dispatcher.specs.Sound.{SeatKept}
-use Rattle.dispatcher.specs.declared.Dispatcher.{Dispatcher}
-use Rattle.dispatcher.proofs.Reading.{seat-read}
-use Rattle.soundness.proofs.Keeping.{seat-decides, seat-above, seat-idle}
+use Rattle.dispatcher.specs.Limits.{slotLimit, none}
+use Rattle.soundness.specs.Parts.{SeatFits}
+use Rattle.soundness.proofs.Sitting.{Marks, marks-none, marks-slot, marks-idle, seat-decides, seat-above, seat-idle}
 use Rattle.soundness.proofs.misseated.Statement.{statement}
 use Rattle.soundness.proofs.misseated.Tie as tie
 
 abbrev Inv-loop : tie.InvT-loop
-Inv-loop places d firsts c₀ c = (c ≤ coreLimit) × ((j : ℕ) → j < c → SeatKept d j)
+Inv-loop seats count masks seated₀ c₀ seated c = (c ≤ count) × ((j : ℕ) → j < c → SeatFits seats masks j) × Marks seats c seated
 
 abbrev μ-loop : tie.MeasureT-loop
-μ-loop places d firsts c₀ c = coreLimit - c
+μ-loop seats count masks seated₀ c₀ seated c = count - c
 
-order-long : (e : tie.Start Inv-loop μ-loop) → length (e .args .t1 .order) ≡ slotLimit
-order-long e = simp length-map at (e .good .0 .1 .1 .1 .1 .0 .1 .0 .1)
-
-seats-long : (e : tie.Start Inv-loop μ-loop) → length (e .args .t1 .seats) ≡ coreLimit
-seats-long e = simp length-map at (e .good .0 .1 .1 .1 .1 .1 .0 .1 .0 .1)
-
--- in a turn of the loop: the dispatcher, the core, what is read there, its first place in the wake order and its first core
+-- in a turn of the loop: the seats, the masks, the core and what is read there
 module _ (c : tie.In-loop Inv-loop μ-loop) where
-  abbrev start : tie.Start Inv-loop μ-loop
-  start = c .before .before .before .before .before
+  abbrev seats : List ℕ
+  seats = c .before .before .before .args .seats .now
 
-  abbrev d : Dispatcher
-  d = start .args .t1
+  abbrev masks : List ℕ
+  masks = c .before .before .before .args .masks .now
 
   abbrev k : ℕ
   k = c .before .loop .c
 
   abbrev v : ℕ
-  v = getD (d .seats) k 0
+  v = getD seats k 0
 
-  abbrev p : ℕ
-  p = getD (start .args .places .now) v 0
-
-  abbrev q : ℕ
-  q = getD (c .before .before .first-places .result) v 0
-
-  read : seatAt d k ≡ v
-  read = seat-read d k (seats-long start) (c .loop-test .taken)
+  read : getD seats k none ≡ v
+  read = getD-any seats k none 0 (omega (arith, c .loop-test .taken, c .before .before .before .pre))
 
   -- a slot sits there: what its test decides
-  tested : v < slotLimit → {r : Bool} → Decides ((p ≢ none) × (q ≡ k) × (has (taskAt d v .mask) k ≡ true)) r → Decides (SeatKept d k) r
-  tested small = seat-decides d (c .loop-test .taken) read small (rw (order-long start) at (start .pre .each v small)) (rw (seats-long start) at (c .before .before .first-places .ensures .each v small))
-
-slice-aggregate-first-places : tie.Need-slice-aggregate-first-places Inv-loop μ-loop
-slice-aggregate-first-places c = search needs
-
-first-places-requires : tie.Need-first-places-requires Inv-loop μ-loop
-first-places-requires c κs = search needs
+  tested : v < slotLimit → {r : Bool} → Decides ((getD (c .before .loop .seated) v false ≡ false) × (has (getD masks v 0) k ≡ true)) r → Decides (SeatFits seats masks k) r
+  tested = seat-decides read (c .before .loop .inv .2) masks
 
 loop-holds : tie.Need-loop-holds Inv-loop μ-loop
-loop-holds c = (omega arith, λ j l. absurd (omega arith))
+loop-holds c = (omega arith, (λ j l. absurd (omega arith)), marks-none (c .before .args .seats .now))
 
 mul-sits : tie.Need-mul-sits Inv-loop μ-loop
 mul-sits c = search needs
 
-element-copy-out-sits : tie.Need-element-copy-out-sits Inv-loop μ-loop
-element-copy-out-sits c = search needs
+shared-slice-read-sits : tie.Need-shared-slice-read-sits Inv-loop μ-loop
+shared-slice-read-sits c = search needs
 
 cast-slot : tie.Need-cast-slot Inv-loop μ-loop
-cast-slot c = search needs
+cast-slot c = omega (arith, c .shared-slice-known2 .given (c .before .before .loop .c))
 
-mul-t : tie.Need-mul-t Inv-loop μ-loop
-mul-t c = search needs
+array-read-may-sit : tie.Need-array-read-may-sit Inv-loop μ-loop
+array-read-may-sit c = search needs
 
-element-copy-out-t : tie.Need-element-copy-out-t Inv-loop μ-loop
-element-copy-out-t c = search needs
+mul-may-sit : tie.Need-mul-may-sit Inv-loop μ-loop
+mul-may-sit c = search needs
 
-mul-place : tie.Need-mul-place Inv-loop μ-loop
-mul-place c = search needs
+element-copy-out-may-sit : tie.Need-element-copy-out-may-sit Inv-loop μ-loop
+element-copy-out-may-sit c = search needs
 
-element-copy-out-place : tie.Need-element-copy-out-place Inv-loop μ-loop
-element-copy-out-place c = search needs
-
-mul-first : tie.Need-mul-first Inv-loop μ-loop
-mul-first c = search needs
-
-array-read-first : tie.Need-array-read-first Inv-loop μ-loop
-array-read-first c = search needs
-
-seat-kept-requires : tie.Need-seat-kept-requires Inv-loop μ-loop
-seat-kept-requires c κs = search needs
+may-sit-requires : tie.Need-may-sit-requires Inv-loop μ-loop
+may-sit-requires c κs = search needs
 
 returns : tie.Need-returns Inv-loop μ-loop
 returns c =
-    let i = c .before .before .before .before .before .before in
+    let i = c .before .before .before .before .before in
     record {
       below = i .loop-test .taken;
-      fails = tested i (c .before .before .before .before .if1 .taken) (c .before .seat-kept .ensures) .no (not-true _ (c .if2 .taken));
+      fails = tested i (c .before .before .before .if1 .taken) (c .before .may-sit .ensures) .no (not-true _ (c .if2 .taken));
       lower = i .before .loop .inv .1;
     }
+
+array-write-seated : tie.Need-array-write-seated Inv-loop μ-loop
+array-write-seated c = search needs
 
 returns-2 : tie.Need-returns-2 Inv-loop μ-loop
 returns-2 c =
     let i = c .before .before .before in
     record {
       below = i .loop-test .taken;
-      fails = seat-above (d i) (k i) (rw (read i) (c .before .if1 .left)) (λ x. omega (arith, x, read i, c .if3 .taken));
+      fails = seat-above (seats i) (masks i) (k i) (rw (read i) (c .before .if1 .left)) (λ x. omega (arith, x, read i, c .if3 .taken));
       lower = i .before .loop .inv .1;
     }
 
@@ -123,14 +98,23 @@ loop-less c = search needs
 
 loop-again : tie.Need-loop-again Inv-loop μ-loop
 loop-again c =
-    let i = c .before .before in (
+    let i = c .before .before in
+    let l = i .before .loop in
+    ⊎-elim
+    (λ w. (
       omega arith,
-      below-more _ _ (i .before .loop .inv .1)
-          (⊎-elim (λ w. tested i (w .0 .taken) (w .3 .ensures) .yes (not-false _ (w .4 .left))) (λ w. seat-idle (d i) (k i) (omega (arith, read i, w .1 .left))) (c .if1 .came)),
-    )
+      below-more _ _ (l .inv .1) (tested i (w .0 .taken) (w .2 .ensures) .yes (not-false _ (w .3 .left))),
+      rw (w .4) (marks-slot (read i) (l .inv .2) (w .0 .taken)),
+    ))
+    (λ w. (
+      omega arith,
+      below-more _ _ (l .inv .1) (seat-idle (seats i) (masks i) (k i) (omega (arith, read i, w .1 .left))),
+      rw (w .2) (marks-idle (read i) (l .inv .2) (w .0 .left)),
+    ))
+    (c .if1 .came)
 
 returns-3 : tie.Need-returns-3 Inv-loop μ-loop
-returns-3 c = λ k l. c .before .loop .inv .1 k (omega (arith, l, c .loop-test .left))
+returns-3 c = λ j l. c .before .loop .inv .1 j (omega (arith, l, c .loop-test .left))
 
 pub misseated-spec : {M : Type 1} → statement M
 misseated-spec =
@@ -138,20 +122,16 @@ misseated-spec =
     (tie.spec
     Inv-loop
     μ-loop
-    slice-aggregate-first-places
-    first-places-requires
     loop-holds
     mul-sits
-    element-copy-out-sits
+    shared-slice-read-sits
     cast-slot
-    mul-t
-    element-copy-out-t
-    mul-place
-    element-copy-out-place
-    mul-first
-    array-read-first
-    seat-kept-requires
+    array-read-may-sit
+    mul-may-sit
+    element-copy-out-may-sit
+    may-sit-requires
     returns
+    array-write-seated
     returns-2
     add-c
     loop-less
