@@ -1,0 +1,234 @@
+/*
+ * Replays document 01's listing through the C interface, and before that holds the header's structs
+ * against the library: each field is written on one side and read on the other. Ends with status 1
+ * at the first difference.
+ */
+#include <stdio.h>
+#include <stdlib.h>
+#include <string.h>
+
+#include "makxirund.h"
+
+#define COUNT(a) (sizeof(a) / sizeof((a)[0]))
+
+static void expect(int holds, const char *what, int line)
+{
+    if (!holds) {
+        fprintf(stderr, "listing.c:%d: %s does not hold\n", line, what);
+        exit(1);
+    }
+}
+
+#define EXPECT(what) expect(what, #what, __LINE__)
+
+/* Room around the dispatcher, so that a library with another idea of its size is caught, not crashed by. */
+#define MARGIN 4096
+#define PATTERN 0xA5
+
+static union {
+    unsigned char bytes[MARGIN + sizeof(struct makxirund_dispatcher) + MARGIN];
+    max_align_t aligned;
+} room;
+
+static struct makxirund_dispatcher *lend(void)
+{
+    memset(room.bytes, PATTERN, sizeof room.bytes);
+    return (struct makxirund_dispatcher *)(room.bytes + MARGIN);
+}
+
+static int margins_kept(void)
+{
+    for (size_t i = 0; i < MARGIN; i++) {
+        if (room.bytes[i] != PATTERN || room.bytes[MARGIN + sizeof(struct makxirund_dispatcher) + i] != PATTERN)
+            return 0;
+    }
+    return 1;
+}
+
+static int same_report(struct makxirund_report r, unsigned number, unsigned moves, unsigned started, unsigned stopped)
+{
+    return r.number == number && r.moves == moves && r.started == started && r.stopped == stopped;
+}
+
+static int quiet(struct makxirund_report r, unsigned number)
+{
+    return same_report(r, number, 0, MAKXIRUND_NONE, MAKXIRUND_NONE);
+}
+
+/* ---- the header's structs against the library ---- */
+
+static int all_empty(const struct makxirund_dispatcher *d)
+{
+    for (size_t s = 0; s < COUNT(d->tasks); s++) {
+        if (d->tasks[s].priority != 0 || d->tasks[s].mask != 0 || d->order[s] != MAKXIRUND_NONE)
+            return 0;
+    }
+    for (size_t c = 0; c < COUNT(d->seats); c++) {
+        if (d->seats[c] != MAKXIRUND_NONE)
+            return 0;
+    }
+    return 1;
+}
+
+static void check_dispatcher(void)
+{
+    struct makxirund_dispatcher *d = lend();
+    EXPECT(quiet(makxirund_fresh(d, 33), MAKXIRUND_CORE_COUNT));
+    EXPECT(d->cores == 1 && all_empty(d) && margins_kept());
+
+    d = lend();
+    EXPECT(quiet(makxirund_fresh(d, 32), MAKXIRUND_DONE));
+    EXPECT(d->cores == 32 && all_empty(d) && margins_kept());
+    EXPECT(makxirund_sound(d) == MAKXIRUND_DONE);
+
+    /* the last slot and the last core lie where the header says */
+    EXPECT(quiet(makxirund_create(d, 127, 200, 0x80000000u), MAKXIRUND_DONE));
+    EXPECT(d->tasks[127].priority == 200 && d->tasks[127].mask == 0x80000000u);
+    EXPECT(same_report(makxirund_wake(d, 127), MAKXIRUND_DONE, 0, 127, MAKXIRUND_NONE));
+    EXPECT(d->order[0] == 127 && d->order[1] == MAKXIRUND_NONE && d->seats[31] == 127 && d->seats[0] == MAKXIRUND_NONE);
+    EXPECT(margins_kept());
+
+    /* what C writes the library reads */
+    d->order[127] = 7;
+    EXPECT(makxirund_sound(d) == MAKXIRUND_NOT_SOUND);
+    d->order[127] = MAKXIRUND_NONE;
+    d->seats[30] = 127;
+    EXPECT(makxirund_sound(d) == MAKXIRUND_NOT_SOUND);
+    d->seats[30] = MAKXIRUND_NONE;
+    d->tasks[0].mask = 1;
+    EXPECT(makxirund_sound(d) == MAKXIRUND_NOT_SOUND);
+    d->tasks[0].priority = 1;
+    EXPECT(makxirund_sound(d) == MAKXIRUND_DONE);
+    d->cores = 31;
+    EXPECT(makxirund_sound(d) == MAKXIRUND_NOT_SOUND);
+    EXPECT(quiet(makxirund_block(d, 127), MAKXIRUND_NOT_SOUND));
+    d->cores = 32;
+
+    /* each argument arrives whole */
+    EXPECT(quiet(makxirund_wake(d, 383), MAKXIRUND_SLOT_ABOVE)); /* 383 is 127 but for the high byte */
+    EXPECT(quiet(makxirund_delete(d, 127), MAKXIRUND_STILL_READY));
+    EXPECT(quiet(makxirund_block(d, 127), MAKXIRUND_DONE));
+    EXPECT(quiet(makxirund_delete(d, 127), MAKXIRUND_DONE));
+    EXPECT(d->tasks[127].priority == 0 && d->tasks[127].mask == 0);
+    EXPECT(makxirund_sound(d) == MAKXIRUND_DONE && margins_kept());
+}
+
+static void check_load(void)
+{
+    const struct makxirund_record list[] = {{2, 9, 1}, {127, 255, 6}, {3, 1, 4}, {127, 0, 0}};
+    struct makxirund_dispatcher *d = lend();
+    makxirund_fresh(d, 3);
+    const struct makxirund_dispatcher before = *d;
+
+    struct makxirund_load_report r = makxirund_load(d, list, 4);
+    EXPECT(quiet(r.report, MAKXIRUND_SLOT_IN_USE) && r.index == 3);
+    EXPECT(memcmp(d->tasks, before.tasks, sizeof d->tasks) == 0);
+    r = makxirund_load(d, list, 0);
+    EXPECT(quiet(r.report, MAKXIRUND_DONE) && r.index == 0);
+    r = makxirund_load(d, list, 3);
+    EXPECT(quiet(r.report, MAKXIRUND_DONE) && r.index == 0);
+    EXPECT(d->tasks[2].priority == 9 && d->tasks[2].mask == 1);
+    EXPECT(d->tasks[127].priority == 255 && d->tasks[127].mask == 6);
+    EXPECT(d->tasks[3].priority == 1 && d->tasks[3].mask == 4);
+    EXPECT(margins_kept());
+}
+
+static int same_text(struct makxirund_written w, const uint8_t *buffer, const char *text)
+{
+    return w.number == MAKXIRUND_DONE && w.length == strlen(text) && memcmp(buffer, text, w.length) == 0;
+}
+
+static void check_lines(void)
+{
+    uint8_t buffer[MAKXIRUND_LONGEST_LINE];
+    struct makxirund_dispatcher *d = lend();
+    makxirund_fresh(d, 2);
+    makxirund_create(d, 101, 1, 2);
+    makxirund_wake(d, 101);
+
+    struct makxirund_line line = {4000000000u, 3, 65535, {201, 102, 65534, 300}};
+    const char *text = "4000000000 D 65535 201 102 65534 300 -,101\n";
+    memset(buffer, PATTERN, sizeof buffer);
+    EXPECT(same_text(makxirund_line(line, d, buffer, strlen(text)), buffer, text));
+    EXPECT(buffer[strlen(text)] == PATTERN);
+    struct makxirund_written w = makxirund_line(line, d, buffer, strlen(text) - 1);
+    EXPECT(w.number == MAKXIRUND_LINE_LONG && w.length == 0);
+    line.kind = 4;
+    w = makxirund_line(line, d, buffer, sizeof buffer);
+    EXPECT(w.number == MAKXIRUND_BAD_KIND && w.length == 0);
+
+    text = "refused 255 at 18446744073709551615\n";
+    EXPECT(strlen(text) == MAKXIRUND_LONGEST_FAULT);
+    EXPECT(same_text(makxirund_fault(255, SIZE_MAX, buffer, sizeof buffer), buffer, text));
+    EXPECT(margins_kept());
+}
+
+/* ---- document 01's listing ---- */
+
+static const uint8_t file[] = {0x03, 0x04, 0x00, 0x32, 0x03, 0x00, 0x00, 0x00, 0x01, 0x28, 0x06, 0x00, 0x00, 0x00, 0x02,
+                               0x1E, 0x01, 0x00, 0x00, 0x00, 0x05, 0x1E, 0x04, 0x00, 0x00, 0x00, 0x08, 0x00, 0x01, 0x00,
+                               0x01, 0x01, 0x01, 0x02, 0x01, 0x05, 0x02, 0x00, 0x01, 0x05, 0x01, 0x00, 0x03, 0x05};
+
+static const char *const listing[] = {"1 C 0 0 0 - - -,-,-\n",  "2 C 1 0 0 - - -,-,-\n",  "3 C 2 0 0 - - -,-,-\n",
+                                      "4 C 5 0 0 - - -,-,-\n",  "5 W 0 0 0 0 - 0,-,-\n",  "6 W 1 0 0 1 - 0,1,-\n",
+                                      "7 W 2 0 2 2 - 2,0,1\n",  "8 W 5 0 0 - - 2,0,1\n",  "9 B 0 0 1 5 - 2,1,5\n",
+                                      "10 W 5 9 0 - - 2,1,5\n", "11 W 0 0 1 0 5 2,0,1\n", "12 D 5 11 0 - - 2,0,1\n"};
+
+static struct makxirund_report make_call(struct makxirund_dispatcher *d, struct makxirund_file_event e)
+{
+    switch (e.kind) {
+    case 1:
+        return makxirund_wake(d, e.slot);
+    case 2:
+        return makxirund_block(d, e.slot);
+    default:
+        return makxirund_delete(d, e.slot);
+    }
+}
+
+static void print_line(size_t k, unsigned kind, unsigned slot, struct makxirund_report r,
+                       const struct makxirund_dispatcher *d)
+{
+    uint8_t buffer[MAKXIRUND_LONGEST_LINE];
+    const struct makxirund_line line = {(uint32_t)k + 1, (uint8_t)kind, (uint16_t)slot, r};
+    const struct makxirund_written w = makxirund_line(line, d, buffer, sizeof buffer);
+    EXPECT(same_text(w, buffer, listing[k]));
+    fwrite(buffer, 1, w.length, stdout);
+}
+
+static void replay_listing(void)
+{
+    struct makxirund_dispatcher *d = lend();
+    const struct makxirund_layout layout = makxirund_read(file, sizeof file);
+    EXPECT(layout.number == MAKXIRUND_DONE && layout.offset == 0);
+    EXPECT(layout.cores == 3 && layout.records == 4 && layout.events == 8);
+    const struct makxirund_layout cut = makxirund_read(file, sizeof file - 1);
+    EXPECT(cut.number == MAKXIRUND_FILE_SHORT && cut.offset == sizeof file - 1);
+    EXPECT(cut.cores == 0 && cut.records == 0 && cut.events == 0);
+
+    EXPECT(quiet(makxirund_fresh(d, layout.cores), MAKXIRUND_DONE));
+    size_t k = 0;
+    for (size_t i = 0; i < layout.records; i++, k++) {
+        const struct makxirund_file_record t = makxirund_record(file, sizeof file, i);
+        EXPECT(t.found);
+        print_line(k, 0, t.slot, makxirund_create(d, t.slot, t.priority, t.mask), d);
+    }
+    for (size_t i = 0; i < layout.events; i++, k++) {
+        const struct makxirund_file_event e = makxirund_event(file, sizeof file, i);
+        EXPECT(e.found);
+        print_line(k, e.kind, e.slot, make_call(d, e), d);
+    }
+    EXPECT(k == COUNT(listing));
+    EXPECT(!makxirund_record(file, sizeof file, layout.records).found);
+    EXPECT(!makxirund_event(file, sizeof file, layout.events).found);
+    EXPECT(margins_kept());
+}
+
+int main(void)
+{
+    check_dispatcher();
+    check_load();
+    check_lines();
+    replay_listing();
+    return 0;
+}

@@ -1,0 +1,250 @@
+/*
+ * Makxirund: which task runs on which core.
+ *
+ * A dispatcher holds a number of cores, a table of tasks, the order in which the ready tasks woke,
+ * and who sits on which core. The kernel holds the struct; every call acts on it in place. There is
+ * no other state: no heap, no locks, no globals. Two calls on one dispatcher must not overlap.
+ *
+ * Every call checks that the dispatcher it is lent is sound, answers a number, and leaves the
+ * dispatcher and all lent bytes as they stood where the number is not MAKXIRUND_DONE (only
+ * makxirund_fresh always writes). Pointers must be valid: to one dispatcher, or to as many bytes or
+ * records as the count beside them says; for a count of 0 any non-null, aligned pointer will do.
+ *
+ * Link with -lmakxirund (libmakxirund.a, x86-64, System V ABI).
+ */
+#ifndef MAKXIRUND_H
+#define MAKXIRUND_H
+
+#include <stdbool.h>
+#include <stddef.h>
+#include <stdint.h>
+
+#ifdef __cplusplus
+extern "C" {
+#define MAKXIRUND_ASSERT(what) static_assert(what, #what)
+#else
+#define MAKXIRUND_ASSERT(what) _Static_assert(what, #what)
+#endif
+
+/* ---- limits ---- */
+
+#define MAKXIRUND_CORES 32 /* a dispatcher has 1 to 32 cores, numbered from 0 */
+#define MAKXIRUND_SLOTS 128 /* task slots, numbered 0 to 127 */
+#define MAKXIRUND_NONE 255 /* an unused place of the wake order, an idle core, no slot */
+#define MAKXIRUND_EVENTS 16000 /* the most events that an event file may have */
+#define MAKXIRUND_LONGEST_LINE 231 /* no line has more bytes, its newline included */
+#define MAKXIRUND_LONGEST_FAULT 36 /* nor has the one line of a refused file */
+
+/* ---- answers ---- */
+
+enum makxirund_number {
+    MAKXIRUND_DONE = 0,
+    MAKXIRUND_NOT_SOUND = 1, /* the dispatcher is not sound: all calls but fresh and the file reader */
+    MAKXIRUND_CORE_COUNT = 2, /* core count not 1 to 32: fresh, file reader */
+    MAKXIRUND_SLOT_ABOVE = 3, /* slot above 127: create, delete, wake, block, load */
+    MAKXIRUND_SLOT_IN_USE = 4, /* create, load */
+    MAKXIRUND_SLOT_EMPTY = 5, /* delete, wake, block */
+    MAKXIRUND_PRIORITY_ZERO = 6, /* create, load */
+    MAKXIRUND_MASK_EMPTY = 7, /* create, load */
+    MAKXIRUND_MISSING_CORE = 8, /* the mask names a core at or above the count: create, load */
+    MAKXIRUND_ALREADY_READY = 9, /* wake */
+    MAKXIRUND_NOT_READY = 10, /* block */
+    MAKXIRUND_STILL_READY = 11, /* delete */
+    MAKXIRUND_FILE_SHORT = 12, /* the file ends too early: file reader */
+    MAKXIRUND_BYTES_AFTER = 13, /* bytes after the last event: file reader */
+    MAKXIRUND_BAD_KIND = 14, /* event kind not 1 to 3: file reader; not 0 to 3: line writer */
+    MAKXIRUND_LINE_LONG = 15, /* the line is longer than the buffer: line writer */
+    MAKXIRUND_EVENT_COUNT = 16 /* more than 16,000 events: file reader */
+};
+/* Where several apply the lowest is given; a file is judged byte by byte from its start. */
+
+/* ---- structs: 255 is MAKXIRUND_NONE ---- */
+
+/* A slot is empty when both are 0. Priority 1 to 255, larger is more urgent; bit k of the mask for core k. */
+struct makxirund_task {
+    uint8_t priority;
+    uint32_t mask;
+};
+
+struct makxirund_dispatcher {
+    uint8_t cores;
+    struct makxirund_task tasks[MAKXIRUND_SLOTS];
+    uint16_t order[MAKXIRUND_SLOTS]; /* the ready slots in the order in which they woke, then 255 */
+    uint16_t seats[MAKXIRUND_CORES]; /* for each core the slot that runs on it, or 255 */
+};
+
+struct makxirund_report {
+    uint8_t number; /* enum makxirund_number */
+    uint8_t moves; /* how many tasks run before and after the call, on different cores */
+    uint16_t started; /* the slot that started, or 255 */
+    uint16_t stopped; /* the slot that was pushed off its core, or 255 */
+};
+
+/* A record of a boot list. */
+struct makxirund_record {
+    uint16_t slot;
+    uint8_t priority;
+    uint32_t mask;
+};
+
+struct makxirund_load_report {
+    struct makxirund_report report;
+    size_t index; /* the first refused record; 0 with number 0 or 1 */
+};
+
+/* What the file reader says: number 0 and the three counts, or a refusal and its offset. */
+struct makxirund_layout {
+    uint8_t number;
+    uint8_t cores;
+    size_t records;
+    size_t events;
+    size_t offset;
+};
+
+/* All 0 where the file has no such record or event. */
+struct makxirund_file_record {
+    bool found;
+    uint16_t slot;
+    uint8_t priority;
+    uint32_t mask;
+};
+
+struct makxirund_file_event {
+    bool found;
+    uint8_t kind; /* 1 wake, 2 block, 3 delete */
+    uint16_t slot;
+};
+
+/* What a line says besides the seats. */
+struct makxirund_line {
+    uint32_t number; /* the running number */
+    uint8_t kind; /* 0 to 3 for create, wake, block, delete: C, W, B, D */
+    uint16_t slot;
+    struct makxirund_report report;
+};
+
+struct makxirund_written {
+    uint8_t number;
+    size_t length; /* the bytes written, newline included; 0 where refused */
+};
+
+/* ---- the layout that the library was built with: place and size of each field ---- */
+
+#define MAKXIRUND_AT(type, field, place, size)                       \
+    MAKXIRUND_ASSERT(offsetof(struct type, field) == (place)         \
+                     && sizeof(((struct type *)0)->field) == (size))
+#define MAKXIRUND_SIZE(type, size) MAKXIRUND_ASSERT(sizeof(struct type) == (size))
+
+MAKXIRUND_SIZE(makxirund_task, 8);
+MAKXIRUND_AT(makxirund_task, priority, 0, 1);
+MAKXIRUND_AT(makxirund_task, mask, 4, 4);
+MAKXIRUND_SIZE(makxirund_dispatcher, 1348);
+MAKXIRUND_AT(makxirund_dispatcher, cores, 0, 1);
+MAKXIRUND_AT(makxirund_dispatcher, tasks, 4, 1024);
+MAKXIRUND_AT(makxirund_dispatcher, order, 1028, 256);
+MAKXIRUND_AT(makxirund_dispatcher, seats, 1284, 64);
+MAKXIRUND_SIZE(makxirund_report, 6);
+MAKXIRUND_AT(makxirund_report, number, 0, 1);
+MAKXIRUND_AT(makxirund_report, moves, 1, 1);
+MAKXIRUND_AT(makxirund_report, started, 2, 2);
+MAKXIRUND_AT(makxirund_report, stopped, 4, 2);
+MAKXIRUND_SIZE(makxirund_record, 8);
+MAKXIRUND_AT(makxirund_record, slot, 0, 2);
+MAKXIRUND_AT(makxirund_record, priority, 2, 1);
+MAKXIRUND_AT(makxirund_record, mask, 4, 4);
+MAKXIRUND_SIZE(makxirund_load_report, 16);
+MAKXIRUND_AT(makxirund_load_report, report, 0, 6);
+MAKXIRUND_AT(makxirund_load_report, index, 8, 8);
+MAKXIRUND_SIZE(makxirund_layout, 32);
+MAKXIRUND_AT(makxirund_layout, number, 0, 1);
+MAKXIRUND_AT(makxirund_layout, cores, 1, 1);
+MAKXIRUND_AT(makxirund_layout, records, 8, 8);
+MAKXIRUND_AT(makxirund_layout, events, 16, 8);
+MAKXIRUND_AT(makxirund_layout, offset, 24, 8);
+MAKXIRUND_SIZE(makxirund_file_record, 12);
+MAKXIRUND_AT(makxirund_file_record, found, 0, 1);
+MAKXIRUND_AT(makxirund_file_record, slot, 2, 2);
+MAKXIRUND_AT(makxirund_file_record, priority, 4, 1);
+MAKXIRUND_AT(makxirund_file_record, mask, 8, 4);
+MAKXIRUND_SIZE(makxirund_file_event, 4);
+MAKXIRUND_AT(makxirund_file_event, found, 0, 1);
+MAKXIRUND_AT(makxirund_file_event, kind, 1, 1);
+MAKXIRUND_AT(makxirund_file_event, slot, 2, 2);
+MAKXIRUND_SIZE(makxirund_line, 16);
+MAKXIRUND_AT(makxirund_line, number, 0, 4);
+MAKXIRUND_AT(makxirund_line, kind, 4, 1);
+MAKXIRUND_AT(makxirund_line, slot, 6, 2);
+MAKXIRUND_AT(makxirund_line, report, 8, 6);
+MAKXIRUND_SIZE(makxirund_written, 16);
+MAKXIRUND_AT(makxirund_written, number, 0, 1);
+MAKXIRUND_AT(makxirund_written, length, 8, 8);
+
+/* ---- calls on the dispatcher that the kernel holds ---- */
+
+/*
+ * Makes *d an empty dispatcher of so many cores, whatever it held. Refused: 2, and then *d is an
+ * empty dispatcher of one core. Call it before any other.
+ */
+struct makxirund_report makxirund_fresh(struct makxirund_dispatcher *d, uint8_t cores);
+
+/* Fills an empty slot with a task that is not ready. Refused: 1, 3, 4, 6, 7, 8. */
+struct makxirund_report makxirund_create(
+    struct makxirund_dispatcher *d, uint16_t slot, uint8_t priority, uint32_t mask);
+
+/* Empties the slot of a task that is not ready. Refused: 1, 3, 5, 11. */
+struct makxirund_report makxirund_delete(struct makxirund_dispatcher *d, uint16_t slot);
+
+/*
+ * The task becomes ready, last among its equals, and seeks a core: running tasks are shifted along a
+ * chain of cores to an idle one, or to that of a less urgent task, which stops. Refused: 1, 3, 5, 9.
+ */
+struct makxirund_report makxirund_wake(struct makxirund_dispatcher *d, uint16_t slot);
+
+/*
+ * The task is no longer ready. If it ran, the waiting task that comes first of those that reach its
+ * core starts, by a chain of shifts. Refused: 1, 3, 5, 10.
+ */
+struct makxirund_report makxirund_block(struct makxirund_dispatcher *d, uint16_t slot);
+
+/*
+ * Creates all records in order, or none. Refused: 1 with index 0, or 3, 4, 6, 7, 8 with the index of
+ * the first refused record; a slot named twice is 4 at its second place. No records: done.
+ */
+struct makxirund_load_report makxirund_load(
+    struct makxirund_dispatcher *d, const struct makxirund_record *records, size_t count);
+
+/* 0 where the dispatcher is sound, else 1. */
+uint8_t makxirund_sound(const struct makxirund_dispatcher *d);
+
+/* ---- event files ---- */
+
+/*
+ * The layout of an event file (core count, tasks after their count, events after theirs), or its
+ * first fault: 2 at 0, 12 at the file's length, 13 at the first surplus byte, 14 at the kind byte,
+ * 16 at the event count's first byte.
+ */
+struct makxirund_layout makxirund_read(const uint8_t *file, size_t length);
+
+/* Record and event `index`, from 0, where the file's bytes have it. */
+struct makxirund_file_record makxirund_record(const uint8_t *file, size_t length, size_t index);
+struct makxirund_file_event makxirund_event(const uint8_t *file, size_t length, size_t index);
+
+/* ---- lines ---- */
+
+/*
+ * Writes one line, with the seats of *d, to the buffer's start: running number; C, W, B or D; slot;
+ * answer; moves; started; stopped; for each core the slot or `-`. Prints the numbers it is given.
+ * Refused: 1, 14, 15; then no byte changes.
+ */
+struct makxirund_written makxirund_line(
+    struct makxirund_line line, const struct makxirund_dispatcher *d, uint8_t *buffer, size_t room);
+
+/* Writes `refused NUMBER at OFFSET`, the one line of a refused file. Refused: 15. */
+struct makxirund_written makxirund_fault(
+    uint8_t number, size_t offset, uint8_t *buffer, size_t room);
+
+#ifdef __cplusplus
+}
+#endif
+
+#endif
