@@ -1,11 +1,11 @@
 -- An accepted load is the creates one after the other, and a refused one stops at the record whose create is refused, with its number.
-use Prim.Native.Nat.{ℕ, zero, suc, _+_, _≤_, _<_}
+use Prim.Native.Nat.{ℕ, zero, suc, _+_, _≤_}
 use mathlib.Core.Path.{_≡_, refl}
 use mathlib.Core.Logic.{inl, inr}
 use mathlib.Core.List.{List, [], _∷_, _++_}
 use native.Mathlib.Numerals.{add-one}
 use native.Mathlib.Omega.{arith}
-use lib.ListN.{length, getD, take}
+use lib.ListN.{length, take}
 use lib.Seq.{take-suc, take-length}
 use Rattle.laws.specs.Lists.{All}
 use Rattle.laws.proofs.Lists.{all-at}

@@ -8,7 +8,7 @@ use native.Mathlib.Omega.{arith}
 use lib.ListN.{length, getD, set, replicate, length-set, length-replicate, getD-replicate}
 use lib.Seq.{getD-set-same, getD-set-other, ext-getD}
 use Rattle.dispatcher.specs.Limits.{slotLimit, none}
-use Rattle.order.specs.Places.{FirstAt, FirstPlace, FirstPlaces, placesOf}
+use Rattle.order.specs.Places.{FirstPlace, FirstPlaces, placesOf}
 
 -- ---- the table
 
@@ -55,11 +55,7 @@ marked-all {l} {i} {out} z m = record { long = m .long; each = λ s h. subst (λ
 -- ---- one place k that holds s, with the first place p of s
 
 module _ {at : ℕ → ℕ} {n s p k : ℕ} (small : n ≤ none) (below : k < n) (holds : at k ≡ s) where
-  -- p is k where no place before k holds what k holds, and only there
-  pub first-here : FirstPlace at 0 n s p → p ≡ k → (j : ℕ) → j < k → at j ≢ at k
-  first-here (inl f) e j l q = f .first j (omega arith) (omega arith) (q ∙ holds)
-  first-here (inr f) e j l q = absurd (omega (arith, f .mark))
-
+  -- p is k where no place before k holds what k holds
   pub here-first : FirstPlace at 0 n s p → ((j : ℕ) → j < k → at j ≢ at k) → p ≡ k
   here-first (inr f) alone = absurd (f .nowhere k (omega arith) below holds)
   here-first (inl f) alone = go (decLt p k) (decLt k p)
@@ -69,11 +65,7 @@ module _ {at : ℕ → ℕ} {n s p k : ℕ} (small : n ≤ none) (below : k < n)
       go (no l) (yes m) = absurd (f .first k (omega arith) m holds)
       go (no l) (no m) = omega arith
 
--- p is the mark where no place holds s, and only there
-pub first-stands : {at : ℕ → ℕ} {n s p : ℕ} → FirstPlace at 0 n s p → p ≢ none → FirstAt at 0 n s p
-first-stands (inl f) h = f
-first-stands (inr f) h = absurd (h (f .mark))
-
+-- p is not the mark where some place holds s
 pub stands-first : {at : ℕ → ℕ} {n s p j : ℕ} → n ≤ none → FirstPlace at 0 n s p → j < n → at j ≡ s → p ≢ none
 stands-first small (inl f) l q e = omega (arith, f .below, e)
 stands-first {j} small (inr f) l q e = f .nowhere j (omega arith) l q

@@ -1,7 +1,7 @@
 -- A ready task: its place in the wake order, and that it is a task of legal priority.
 use Prim.Native.Nat.{ℕ, _<_}
-use mathlib.Core.Path.{_≡_, sym}
-use mathlib.Core.Logic.{_≢_, inl, inr}
+use mathlib.Core.Path.{_≡_}
+use mathlib.Core.Logic.{_≢_}
 use mathlib.Core.List.{List}
 use native.Mathlib.Decide.{decLt}
 use native.Mathlib.Omega.{arith}
@@ -10,9 +10,8 @@ use Rattle.dispatcher.specs.Limits.{slotLimit, none, LegalPriority}
 use Rattle.dispatcher.specs.Slots.{orderAt, Ready, Shaped}
 use Rattle.dispatcher.specs.Sound.{Sound}
 use Rattle.dispatcher.specs.declared.Dispatcher.{Dispatcher}
-use Rattle.order.specs.Places.{FirstPlace, FirstPlaces, placesOf}
 use Rattle.order.specs.ComesBefore.{priorityOf, wokeAt}
-use Rattle.order.proofs.Standing.{place-holds, place-most, place-is}
+use Rattle.order.proofs.Standing.{place-holds, place-most}
 use Rattle.dispatcher.proofs.Ready.{ready-held, ready-used}
 
 -- ---- its place
@@ -30,14 +29,6 @@ woke-within {d} {t} r = omega (arith, place-most (d .order) t none (r .stands), 
 
 pub woke-stands : {d : Dispatcher} {t : ℕ} → Shaped d → Ready d t → (wokeAt d t < slotLimit) × (orderAt d (wokeAt d t) ≡ t)
 woke-stands {d} {t} L r = (rw (L .order) at (woke-within r), place-holds (d .order) t none (woke-within r))
-
--- the table of first places has it
-pub places-woke : {d : Dispatcher} {places : List ℕ} {t : ℕ} → FirstPlaces (d .order) places → Ready d t → getD places t 0 ≡ wokeAt d t
-places-woke {d} {places} {t} F r = go (F .each t (r .slot))
-  where
-    go : FirstPlace (orderAt d) 0 (placesOf (d .order)) t (getD places t 0) → getD places t 0 ≡ wokeAt d t
-    go (inl f) = sym (place-is (d .order) t none (omega (arith, f .below)) (f .holds) (λ j b. f .first j (omega arith) b))
-    go (inr f) = absurd (f .nowhere (r .place) (omega arith) (omega (arith, r .within, held-within (d .order) (ready-held r))) (r .stands))
 
 -- ---- its task
 

@@ -38,8 +38,8 @@ use Rattle.shifting.specs.Picking.{rankAt}
 use Rattle.shifting.proofs.Board.{legal, ranked}
 use Rattle.readiness.specs.Wake.{Woken, Wakes}
 use Rattle.readiness.specs.Block.{freedOf, Refills, Blocked, Blocks}
-use Rattle.readiness.specs.Seats.{shiftedOf}
 use Rattle.readiness.proofs.Freeing.{freed-sound}
+use Rattle.readiness.proofs.Turning.{shiftedOf}
 use Rattle.readiness.proofs.Sizing.{arrive-sized, fill-sized}
 use Rattle.readiness.proofs.Sitting.{seatOf, runTest, waitTest, cores-fit, seat-sits, run-decides, wait-decides}
 

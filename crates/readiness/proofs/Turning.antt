@@ -4,16 +4,16 @@ use mathlib.Core.Path.{_≡_, refl, sym, _∙_, subst}
 use mathlib.Core.Logic.{_≢_, inl, inr}
 use mathlib.Core.List.{List}
 use native.Mathlib.Omega.{arith}
-use lib.ListN.{set}
+use lib.ListN.{length, set}
 use Rattle.dispatcher.specs.Limits.{coreLimit, none}
 use Rattle.dispatcher.specs.Slots.{taskAt, seatAt, Used, Ready, Shaped}
 use Rattle.dispatcher.specs.Sound.{Sound}
-use Rattle.dispatcher.specs.Answers.{numberOf, Answers}
+use Rattle.dispatcher.specs.Answers.{Answers}
 use Rattle.dispatcher.specs.Reports.{stillOf}
 use Rattle.dispatcher.specs.declared.Answer.the-variants.{Done}
 use Rattle.dispatcher.specs.declared.Dispatcher.{Dispatcher}
 use Rattle.dispatcher.specs.declared.Outcome.{Outcome}
-use Rattle.dispatcher.proofs.Promises.{none-applies, slot-below}
+use Rattle.dispatcher.proofs.Promises.{none-applies, slot-below, accepted}
 use Rattle.dispatcher.proofs.Stable.{not-unsound, not-unready}
 use Rattle.order.specs.Changes.{joinOrder, leaveOrder}
 use Rattle.order.proofs.Joining.{joined-new, joined-sound}
@@ -24,15 +24,19 @@ use Rattle.shifting.specs.Shifts.{Arrived, Refilled}
 use Rattle.shifting.specs.declared.Shift.{Shift}
 use Rattle.seating.proofs.Same.{runs-ready}
 use Rattle.shifting.proofs.Board.{core-below, seat-below, legal}
-use Rattle.readiness.specs.Wake.{Woken, wakeRefusals}
-use Rattle.readiness.specs.Block.{freedOf, Refills, Blocked, blockRefusals}
-use Rattle.readiness.specs.Seats.{CoreOf, Shifted}
+use Rattle.readiness.specs.Wake.{Woken, wakeRefusals, Wakes}
+use Rattle.readiness.specs.Block.{freedOf, Refills, Blocked, blockRefusals, Blocks}
+use Rattle.readiness.specs.Seats.{CoreOf, reportOf}
 use Rattle.readiness.proofs.Freeing.{freed-idle, freed-sound}
 use Rattle.dispatcher.proofs.Ready.{ready-real}
 
 -- d with another wake order
 abbrev pub withOrder : Dispatcher → List ℕ → Dispatcher
 withOrder d l = record { cores = d .cores; tasks = d .tasks; order = l; seats = d .seats }
+
+-- d after a shift
+abbrev pub shiftedOf : Dispatcher → Shift → Outcome
+shiftedOf d s = record { report = reportOf s; dispatcher = withSeats d (s .seats) }
 
 -- ---- wake
 
@@ -52,12 +56,12 @@ module _ {d : Dispatcher} {slot : ℕ} (h : Answers (wakeRefusals d slot) 0) whe
     waits = record { ready = joined-new L woken-sound (slot-below h refl) off; off = λ r. off (runs-ready (legal woken-sound) r) };
   })
 
-pub arrived-woken : {d : Dispatcher} {slot : ℕ} {order : List ℕ} {s : Shift} {r : Outcome} → Shaped d → order ≡ joinOrder (d .order) slot → Arrived (withOrder d order) slot s → Shifted (withOrder d order) s r
-    → (numberOf (r .report .answer) ≡ 0) × Woken d slot r
-arrived-woken {d} {slot} {order} {s} {r} L q a h = rw (h .is) (refl, woken)
-  where
-    woken : Woken d slot (record { report = record { answer = Done; moves = s .moves; started = s .started; stopped = s .stopped }; dispatcher = withSeats (withOrder d order) (s .seats) })
-    woken = rw q (record { rest = refl; size = h .size ∙ sym (L .seats); arrives = rw q at a })
+  pub arrived-wakes : {order : List ℕ} {r : Outcome} (s : Shift) → Shaped d → order ≡ joinOrder (d .order) slot → Arrived (withOrder d order) slot s → length (s .seats) ≡ coreLimit
+      → r ≡ shiftedOf (withOrder d order) s → Wakes d slot r
+  arrived-wakes {order} s L q a size p = rw p (accepted h refl woken)
+    where
+      woken : Woken d slot (shiftedOf (withOrder d order) s)
+      woken = rw q (record { rest = refl; size = size ∙ sym (L .seats); arrives = rw q at a })
 
 -- ---- block
 
@@ -82,28 +86,28 @@ module _ {d : Dispatcher} {slot : ℕ} (h : Answers (blockRefusals d slot) 0) wh
       rw (q, p) (record { sound = freed-sound L blocked-sound (ready-real blocked-ready) k (s .sits) .1; below = k; idle = freed-idle L blocked-sound (ready-real blocked-ready) k (s .sits) })
 
   -- it sits nowhere: the waiting task has left, and that is all
-  pub waited-blocked : {order : List ℕ} {core : ℕ} {r : Outcome} → order ≡ leaveOrder (d .order) slot → CoreOf (d .seats) slot core → core ≡ coreLimit
-      → r ≡ record { report = stillOf Done; dispatcher = withOrder d order } → (numberOf (r .report .answer) ≡ 0) × Blocked d slot r
-  waited-blocked q (inl s) e p = absurd (omega (arith, s .below))
-  waited-blocked {order} {core} {r} q (inr s) e p = rw p (refl, blocked)
+  pub waited-blocks : {order : List ℕ} {core : ℕ} {r : Outcome} → order ≡ leaveOrder (d .order) slot → CoreOf (d .seats) slot core → core ≡ coreLimit
+      → r ≡ record { report = stillOf Done; dispatcher = withOrder d order } → Blocks d slot r
+  waited-blocks q (inl s) e p = absurd (omega (arith, s .below))
+  waited-blocks {order} q (inr s) e p = rw p (accepted h refl blocked)
     where
       blocked : Blocked d slot (record { report = stillOf Done; dispatcher = withOrder d order })
       blocked = rw q (record { waited = λ _. (refl, refl); ran = λ z l t. absurd (s .none-sits z (core-below blocked-sound l) t) })
 
   -- it sits on a core, which is filled
-  pub refilled-blocked : {order seats : List ℕ} {core : ℕ} {s : Shift} {r : Outcome} → Shaped d → order ≡ leaveOrder (d .order) slot → seats ≡ set (d .seats) core none → core ≢ coreLimit → CoreOf (d .seats) slot core
-      → Refilled (withSeats (withOrder d order) seats) core s → Shifted (withSeats (withOrder d order) seats) s r → (numberOf (r .report .answer) ≡ 0) × Blocked d slot r
-  refilled-blocked L q p n (inr c) f h = absurd (n (c .is))
-  refilled-blocked {order} {seats} {core} {s} {r} L q p n (inl c) f h = rw (h .is) (refl, blocked)
+  pub refilled-blocks : {order seats : List ℕ} {core : ℕ} {r : Outcome} (s : Shift) → Shaped d → order ≡ leaveOrder (d .order) slot → seats ≡ set (d .seats) core none → core ≢ coreLimit → CoreOf (d .seats) slot core
+      → Refilled (withSeats (withOrder d order) seats) core s → length (s .seats) ≡ coreLimit → r ≡ shiftedOf (withOrder d order) s → Blocks d slot r
+  refilled-blocks s L q p n (inr c) f size e = absurd (n (c .is))
+  refilled-blocks {order} {seats} {core} s L q p n (inl c) f size e = rw e (accepted h refl blocked)
     where
       below : core < d .cores
       below = sits-below (c .below) (c .sits)
 
       after : Outcome
-      after = record { report = record { answer = Done; moves = s .moves; started = s .started; stopped = s .stopped }; dispatcher = withSeats (withOrder d order) (s .seats) }
+      after = shiftedOf (withOrder d order) s
 
       refills : Refills (freedOf d slot core) core after
-      refills = rw q (record { rest = refl; size = h .size ∙ sym (freed-sound L blocked-sound (ready-real blocked-ready) below (c .sits) .0 .seats); fills = rw (q, p) at (f .0); stops = f .1 })
+      refills = rw q (record { rest = refl; size = size ∙ sym (freed-sound L blocked-sound (ready-real blocked-ready) below (c .sits) .0 .seats); fills = rw (q, p) at (f .0); stops = f .1 })
 
       blocked : Blocked d slot after
       blocked = record {

@@ -1,14 +1,12 @@
--- On which core a slot sits, and the outcome of a shift.
+-- On which core a slot sits, and the report of a shift.
 use Prim.Native.Nat.{ℕ, _<_}
 use mathlib.Core.Path.{_≡_}
 use mathlib.Core.Logic.{_⊎_, _≢_}
 use mathlib.Core.List.{List}
-use lib.ListN.{length, getD}
+use lib.ListN.{getD}
 use Rattle.dispatcher.specs.Limits.{coreLimit, none}
 use Rattle.dispatcher.specs.declared.Answer.the-variants.{Done}
-use Rattle.dispatcher.specs.declared.Dispatcher.{Dispatcher}
-use Rattle.dispatcher.specs.declared.Outcome.{Outcome}
-use Rattle.shifting.specs.Board.{withSeats}
+use Rattle.dispatcher.specs.declared.Report.{Report}
 use Rattle.shifting.specs.declared.Shift.{Shift}
 
 -- it sits on core r
@@ -24,9 +22,5 @@ pub record SitsNowhere (seats : List ℕ) (slot r : ℕ) : Type 0 where
 abbrev pub CoreOf : List ℕ → ℕ → ℕ → Type 0
 CoreOf seats slot r = SitsAt seats slot r ⊎ SitsNowhere seats slot r
 
-abbrev pub shiftedOf : Dispatcher → Shift → Outcome
-shiftedOf d s = record { report = record { answer = Done; moves = s .moves; started = s .started; stopped = s .stopped }; dispatcher = withSeats d (s .seats) }
-
-pub record Shifted (d : Dispatcher) (s : Shift) (r : Outcome) : Type 0 where
-  pub is : r ≡ shiftedOf d s
-  pub size : length (s .seats) ≡ coreLimit
+abbrev pub reportOf : Shift → Report
+reportOf s = record { answer = Done; moves = s .moves; started = s .started; stopped = s .stopped }

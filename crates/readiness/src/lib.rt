@@ -1,9 +1,9 @@
 // Wake and block by value: a task becomes ready and seeks a core, or is no longer ready and its core seeks another task.
 ghost use mathlib.Core.Path.{_≡_};
 ghost use Rattle.dispatcher.specs.Answers.{numberOf, Answers};
-ghost use Rattle.readiness.specs.Wake.{Woken, wakeRefusals, Wakes};
-ghost use Rattle.readiness.specs.Block.{Blocked, blockRefusals, Blocks};
-ghost use Rattle.readiness.specs.Seats.{CoreOf, Shifted};
+ghost use Rattle.readiness.specs.Wake.{wakeRefusals, Wakes};
+ghost use Rattle.readiness.specs.Block.{blockRefusals, Blocks};
+ghost use Rattle.readiness.specs.Seats.{CoreOf, reportOf};
 use dispatcher::Answer;
 use dispatcher::Dispatcher;
 use dispatcher::Outcome;
@@ -50,59 +50,16 @@ fn core_of(seats: [u16; Dispatcher::CORES], slot: u16) -> usize
     c
 }
 
-// The dispatcher after a shift, and its report.
-fn shifted(d: Dispatcher, shift: Shift) -> Outcome
-    ensures { λ r. ⌜ Shifted d shift r ⌝ }
+// The report of a shift.
+fn report_of(shift: Shift) -> Report
+    ensures { λ r. ⌜ r ≡ reportOf shift ⌝ }
 {
-    let report = Report {
+    Report {
         answer: Answer::Done,
         moves: shift.moves,
         started: shift.started,
         stopped: shift.stopped,
-    };
-    let seats = shift.seats;
-    let mut next = d;
-    next.seats = seats;
-    Outcome {
-        report,
-        dispatcher: next,
     }
-}
-
-// A wake that is not refused.
-fn woken(d: Dispatcher, slot: u16) -> Outcome
-    requires { ⌜ Answers (wakeRefusals d slot) 0 ⌝ }
-    ensures { λ r. ⌜ (numberOf (r .report .answer) ≡ 0) × Woken d slot r ⌝ }
-{
-    let order = d.order;
-    let longer = order::join(order, slot);
-    let mut joined = d;
-    joined.order = longer;
-    let shift = shifting::arrive(joined, slot);
-    shifted(joined, shift)
-}
-
-// A block that is not refused.
-fn blocked(d: Dispatcher, slot: u16) -> Outcome
-    requires { ⌜ Answers (blockRefusals d slot) 0 ⌝ }
-    ensures { λ r. ⌜ (numberOf (r .report .answer) ≡ 0) × Blocked d slot r ⌝ }
-{
-    let order = d.order;
-    let shorter = order::leave(order, slot);
-    let seats = d.seats;
-    let core = core_of(seats, slot);
-    let mut left = d;
-    left.order = shorter;
-    if core == Dispatcher::CORES {
-        let report = Report::still(Answer::Done);
-        return Outcome {
-            report,
-            dispatcher: left,
-        };
-    }
-    left.seats[core] = Dispatcher::NONE;
-    let shift = shifting::fill(left, core);
-    shifted(left, shift)
 }
 
 // The task becomes ready, last among equals, and seeks a core.
@@ -117,7 +74,18 @@ pub fn wake(d: Dispatcher, slot: u16) -> Outcome
             dispatcher: d,
         };
     }
-    woken(d, slot)
+    let order = d.order;
+    let longer = order::join(order, slot);
+    let mut next = d;
+    next.order = longer;
+    let shift = shifting::arrive(next, slot);
+    let report = report_of(shift);
+    let seats = shift.seats;
+    next.seats = seats;
+    Outcome {
+        report,
+        dispatcher: next,
+    }
 }
 
 // The task is no longer ready; if it ran, its core seeks another.
@@ -132,5 +100,26 @@ pub fn block(d: Dispatcher, slot: u16) -> Outcome
             dispatcher: d,
         };
     }
-    blocked(d, slot)
+    let order = d.order;
+    let shorter = order::leave(order, slot);
+    let seats = d.seats;
+    let core = core_of(seats, slot);
+    let mut next = d;
+    next.order = shorter;
+    if core == Dispatcher::CORES {
+        let report = Report::still(Answer::Done);
+        return Outcome {
+            report,
+            dispatcher: next,
+        };
+    }
+    next.seats[core] = Dispatcher::NONE;
+    let shift = shifting::fill(next, core);
+    let report = report_of(shift);
+    let filled = shift.seats;
+    next.seats = filled;
+    Outcome {
+        report,
+        dispatcher: next,
+    }
 }
