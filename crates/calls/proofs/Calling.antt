@@ -6,15 +6,18 @@ use Rattle.dispatcher.specs.Slots.{Shaped}
 use Rattle.dispatcher.specs.Sound.{Sound}
 use Rattle.dispatcher.specs.declared.Dispatcher.{Dispatcher}
 use Rattle.dispatcher.specs.declared.Outcome.{Outcome}
-use Rattle.tasks.proofs.Model.{createOf, create-creates, deleteOf, delete-deletes}
-use Rattle.tasks.proofs.Same.{creates-same, deletes-same}
-use Rattle.tasks.proofs.Keeping.{create-keeps, delete-keeps}
+use Rattle.tasks.proofs.Model.{createOf, create-creates}
+use Rattle.tasks.proofs.Same.{creates-same}
+use Rattle.tasks.proofs.Keeping.{create-keeps}
 use Rattle.boot.proofs.Model.{loadOf, load-loads}
 use Rattle.boot.proofs.Same.{all-or-none-same}
 use Rattle.boot.proofs.Keeping.{load-keeps}
 use Rattle.readiness.proofs.Model.{wakeOf, wake-wakes, blockOf, block-blocks}
 use Rattle.readiness.proofs.Same.{wakes-same, blocks-same}
 use Rattle.readiness.proofs.Keeping.{wake-keeps, block-keeps}
+use Rattle.deletion.proofs.Model.{deleteOf, delete-deletes}
+use Rattle.deletion.proofs.Same.{deletes-same}
+use Rattle.deletion.proofs.Keeping.{delete-keeps}
 use Rattle.calls.specs.Call.{Call, create, delete, load, wake, block, Does, Fits}
 
 pub does-same : (c : Call) (d : Dispatcher) {r q : Outcome} → Does c d r → Does c d q → r ≡ q
@@ -40,7 +43,7 @@ modelOf (block slot) d = blockOf true d slot
 
 pub model-does : (c : Call) {d : Dispatcher} → Shaped d → Sound d → Does c d (modelOf c d)
 model-does (create slot priority mask) {d} L S = create-creates d slot priority mask (decides-true S)
-model-does (delete slot) {d} L S = delete-deletes d slot (decides-true S)
+model-does (delete slot) {d} L S = delete-deletes d slot L (decides-true S)
 model-does (load list) {d} L S = load-loads d list L (decides-true S)
 model-does (wake slot) {d} L S = wake-wakes d slot L (decides-true S)
 model-does (block slot) {d} L S = block-blocks d slot L (decides-true S)

@@ -22,10 +22,10 @@ use Rattle.dispatcher.proofs.Freshness.{freshly-keeps}
 use Rattle.shifting.specs.Rule.{KeepsIn, LeastIn}
 use Rattle.shifting.proofs.Board.{ranked}
 use Rattle.tasks.specs.Create.{createRefusals}
-use Rattle.tasks.specs.Delete.{deleteRefusals}
 use Rattle.boot.specs.Load.{loadRefusals}
 use Rattle.readiness.specs.Wake.{wakeRefusals}
 use Rattle.readiness.specs.Block.{blockRefusals}
+use Rattle.deletion.specs.Delete.{deleteRefusals}
 use Rattle.calls.specs.Call.{Call, create, delete, load, wake, block, Does, refusalsOf}
 use Rattle.calls.specs.Sequence.{Step, After}
 use Rattle.calls.specs.Woken.{WokenSince}

@@ -1,7 +1,7 @@
 -- Fresh, create, delete and load keep demands 2 and 3, and so does every call; and who is ready after each.
 use Prim.Native.Nat.{ℕ}
-use mathlib.Core.Path.{_≡_, refl, ap, subst}
-use mathlib.Core.Logic.{inl, inr, _↔_, Iff·rfl}
+use mathlib.Core.Path.{_≡_, refl, sym, ap, subst}
+use mathlib.Core.Logic.{_≢_, _⊎_, inl, inr, _↔_, Iff·rfl}
 use native.Mathlib.Decide.{ℕ-discrete}
 use native.Mathlib.Omega.{arith}
 use mathlib.Core.List.{List}
@@ -19,17 +19,18 @@ use Rattle.dispatcher.specs.declared.TaskRecord.{TaskRecord}
 use Rattle.dispatcher.specs.declared.Report.{Report}
 use Rattle.dispatcher.specs.declared.Dispatcher.{Dispatcher}
 use Rattle.dispatcher.specs.declared.Outcome.{Outcome}
-use Rattle.dispatcher.proofs.Promises.{none-applies}
 use Rattle.dispatcher.proofs.Freshness.{freshly-keeps}
 use Rattle.order.specs.ComesBefore.{priorityOf, ComesBefore}
 use Rattle.shifting.specs.Rule.{KeepsIn}
 use Rattle.shifting.proofs.Board.{legal}
 use Rattle.tasks.specs.Table.{withTask, Writes}
 use Rattle.tasks.specs.Create.{Creates}
-use Rattle.tasks.specs.Delete.{Deletes}
 use Rattle.boot.specs.Load.{AllCreated, AllOrNone}
 use Rattle.boot.proofs.Keeping.{loaded-off}
-use Rattle.readiness.proofs.Keeping.{Ruled, promised-keeps, Rule, promised-rule, some-core, wake-rule, block-rule}
+use Rattle.readiness.proofs.Keeping.{Ruled, promised-keeps, Rule, promised-rule, some-core, wake-rule, block-rule, block-ready}
+use Rattle.deletion.specs.Delete.{Ends, Deletes}
+use Rattle.deletion.proofs.Same.{ready-or-not}
+use Rattle.deletion.proofs.Keeping.{block-done, ended-off}
 use Rattle.calls.specs.Call.{Call, create, delete, load, wake, block, Does}
 use Rattle.tasks.proofs.Keeping.{created-off}
 
@@ -57,32 +58,41 @@ fresh-rule {r = r} f = record {
 abbrev withTasks : Dispatcher → List Task → Dispatcher
 withTasks d ts = record { cores = d .cores; tasks = ts; order = d .order; seats = d .seats }
 
--- the ready tasks are as they were
-module _ (d : Dispatcher) (ts : List Task) (same : (t : ℕ) → Ready d t → getD ts t noTask ≡ taskAt d t) where
-  written-ready : {t : ℕ} → Ready d t → Ready (withTasks d ts) t
-  written-ready r = record { slot = r .slot; place = r .place; within = r .within; stands = r .stands }
+-- the ready tasks are the same in ts and us
+module _ (d : Dispatcher) (ts us : List Task) (same : (t : ℕ) → Ready d t → getD us t noTask ≡ getD ts t noTask) where
+  other-ready : {t : ℕ} → Ready (withTasks d ts) t → Ready (withTasks d us) t
+  other-ready r = record { slot = r .slot; place = r .place; within = r .within; stands = r .stands }
 
-  ready-written : {t : ℕ} → Ready (withTasks d ts) t → Ready d t
-  ready-written r = record { slot = r .slot; place = r .place; within = r .within; stands = r .stands }
+  ready-other : {t : ℕ} → Ready (withTasks d us) t → Ready (withTasks d ts) t
+  ready-other r = record { slot = r .slot; place = r .place; within = r .within; stands = r .stands }
 
-  same-priority : {t : ℕ} → Ready d t → priorityOf (withTasks d ts) t ≡ priorityOf d t
-  same-priority r = ap (λ (x : Task). x .priority) (same _ r)
+  same-task : {t : ℕ} → Ready (withTasks d ts) t → getD us t noTask ≡ getD ts t noTask
+  same-task r = same _ (record { slot = r .slot; place = r .place; within = r .within; stands = r .stands })
 
-  same-order : {t u : ℕ} → Ready d t → Ready d u → ComesBefore (withTasks d ts) t u → ComesBefore d t u
+  same-priority : {t : ℕ} → Ready (withTasks d ts) t → priorityOf (withTasks d us) t ≡ priorityOf (withTasks d ts) t
+  same-priority r = ap (λ (x : Task). x .priority) (same-task r)
+
+  same-order : {t u : ℕ} → Ready (withTasks d ts) t → Ready (withTasks d ts) u → ComesBefore (withTasks d us) t u → ComesBefore (withTasks d ts) t u
   same-order rt ru (inl h) = let a = same-priority rt in let b = same-priority ru in inl (omega arith)
   same-order rt ru (inr (e, h)) = let a = same-priority rt in let b = same-priority ru in inr (omega arith, h)
 
-  written-keeps : KeepsIn d (seatAt d) → KeepsIn (withTasks d ts) (seatAt d)
-  written-keeps = keeps-agree (λ t c r l. rw (same t r) refl) (λ t u r q. same-order r q) (λ t r. written-ready r) (λ t r. ready-written r)
+  other-keeps : {s : ℕ → ℕ} → KeepsIn (withTasks d ts) s → KeepsIn (withTasks d us) s
+  other-keeps = keeps-agree (λ t c r l. rw (same-task r) refl) (λ t u r q. same-order r q) (λ t r. other-ready r) (λ t r. ready-other r)
 
-  aside-rule : {r : Outcome} → Sound d → KeepsIn d (seatAt d) → r .dispatcher ≡ withTasks d ts → r .report ≡ stillOf (r .report .answer) → Rule d (r .dispatcher) (r .report .moves)
-  aside-rule {r} S K e still = rw (e, moves) (written-keeps K, stays-least (some-core S) (written-keeps K))
-    where
-      moves : r .report .moves ≡ 0
-      moves = ap (λ (x : Report). x .moves) still
+-- what holds of a call that leaves x holds still where slots of x that are not ready are written
+module _ (x : Dispatcher) (ts : List Task) (same : (t : ℕ) → Ready x t → getD ts t noTask ≡ taskAt x t) where
+  aside-rule : (d : Dispatcher) {moves : ℕ} → Rule d x moves → Rule d (withTasks x ts) moves
+  aside-rule d R = (other-keeps x (x .tasks) ts same (R .0), record { fewest = λ s K. R .1 .fewest s (other-keeps x ts (x .tasks) (λ t r. sym (same t r)) K); told = R .1 .told; below = R .1 .below })
 
-  aside-ready : {e : Dispatcher} → e ≡ withTasks d ts → (t : ℕ) → Ready e t ↔ Ready d t
-  aside-ready q t = rw q (ready-written, written-ready)
+  aside-ready : (t : ℕ) → Ready (withTasks x ts) t ↔ Ready x t
+  aside-ready t = (ready-other x (x .tasks) ts same, other-ready x (x .tasks) ts same)
+
+-- a call that leaves the seats, with a report of no move
+stays-rule : {d : Dispatcher} → Sound d → KeepsIn d (seatAt d) → Rule d d 0
+stays-rule S K = (K, stays-least (some-core S) K)
+
+still-moves : {r : Report} → r ≡ stillOf (r .answer) → r .moves ≡ 0
+still-moves e = ap (λ (x : Report). x .moves) e
 
 -- ---- create and delete: one slot
 
@@ -90,11 +100,17 @@ module _ (d : Dispatcher) (slot : ℕ) (v : Task) (off : Ready d slot → ⊥) w
   same-but : (t : ℕ) → Ready d t → taskAt (withTask d slot v) t ≡ taskAt d t
   same-but t r = getD-set-other (d .tasks) slot t v noTask (λ e. off (subst (Ready d) e r))
 
+  slot-rule : (b : Dispatcher) {moves : ℕ} → Rule b d moves → Rule b (withTask d slot v) moves
+  slot-rule = aside-rule d (set (d .tasks) slot v) same-but
+
+  slot-ready : (t : ℕ) → Ready (withTask d slot v) t ↔ Ready d t
+  slot-ready = aside-ready d (set (d .tasks) slot v) same-but
+
   writes-rule : {r : Outcome} → Sound d → KeepsIn d (seatAt d) → Writes d slot v r → Rule d (r .dispatcher) (r .report .moves)
-  writes-rule S K W = aside-rule d (set (d .tasks) slot v) same-but S K (W .written) (W .still)
+  writes-rule S K W = rw (W .written, still-moves (W .still)) (slot-rule d (stays-rule S K))
 
   writes-ready : {r : Outcome} → Writes d slot v r → (t : ℕ) → Ready (r .dispatcher) t ↔ Ready d t
-  writes-ready W = aside-ready d (set (d .tasks) slot v) same-but (W .written)
+  writes-ready W t = rw (W .written) (slot-ready t)
 
 pub create-rule : {d : Dispatcher} {slot priority mask : ℕ} {r : Outcome} → Sound d → KeepsIn d (seatAt d) → Creates d slot priority mask r → Ruled d r
 create-rule {d} {slot} S K C = promised-rule C K (λ z. writes-rule d slot _ (created-off S C z) S K (C .done z))
@@ -102,15 +118,32 @@ create-rule {d} {slot} S K C = promised-rule C K (λ z. writes-rule d slot _ (cr
 pub create-ready : {d : Dispatcher} {slot priority mask : ℕ} {r : Outcome} → Sound d → Creates d slot priority mask r → (t : ℕ) → Ready (r .dispatcher) t ↔ Ready d t
 create-ready {d} {slot} S C t = promised-keeps (λ x. Ready x t ↔ Ready d t) C Iff·rfl (λ z. writes-ready d slot _ (created-off S C z) (C .done z) t)
 
-module _ {d : Dispatcher} {slot : ℕ} {r : Outcome} (D : Deletes d slot r) (z : numberOf (r .report .answer) ≡ 0) where
-  deleted-off : Ready d slot → ⊥
-  deleted-off q = none-applies (D .answer) z 11 (inr (inr (inr (inl (refl, q)))))
+-- a ready task is blocked, and then its slot, not ready any more, is emptied: what holds of the block holds of the delete
+module _ {d : Dispatcher} {slot : ℕ} {r : Outcome} (L : Shaped d) (S : Sound d) (D : Deletes d slot r) where
+  ended-rule : numberOf (r .report .answer) ≡ 0 → KeepsIn d (seatAt d) → Ends d slot r → Rule d (r .dispatcher) (r .report .moves)
+  ended-rule z K E =
+      let k = block-rule L S K (E .blocks) in
+      rw (E .emptied, E .reported) (slot-rule (E .block .dispatcher) slot noTask (ended-off E z L S) d (k .0, k .1 (block-done E z)))
 
-pub delete-rule : {d : Dispatcher} {slot : ℕ} {r : Outcome} → Sound d → KeepsIn d (seatAt d) → Deletes d slot r → Ruled d r
-delete-rule {d} {slot} S K D = promised-rule D K (λ z. writes-rule d slot noTask (deleted-off D z) S K (D .done z))
+  pub delete-rule : KeepsIn d (seatAt d) → Ruled d r
+  delete-rule K = promised-rule D K (λ z. go z (ready-or-not d slot))
+    where
+      go : numberOf (r .report .answer) ≡ 0 → Ready d slot ⊎ (Ready d slot → ⊥) → Rule d (r .dispatcher) (r .report .moves)
+      go z (inl on) = ended-rule z K (D .done z .ready on)
+      go z (inr off) = writes-rule d slot noTask off S K (D .done z .not-ready off)
 
-pub delete-ready : {d : Dispatcher} {slot : ℕ} {r : Outcome} → Deletes d slot r → (t : ℕ) → Ready (r .dispatcher) t ↔ Ready d t
-delete-ready {d} {slot} D t = promised-keeps (λ x. Ready x t ↔ Ready d t) D Iff·rfl (λ z. writes-ready d slot noTask (deleted-off D z) (D .done z) t)
+  ended-ready : numberOf (r .report .answer) ≡ 0 → Ends d slot r → (t : ℕ) → Ready (r .dispatcher) t ↔ (Ready d t × (t ≢ slot))
+  ended-ready z E t =
+      let e = slot-ready (E .block .dispatcher) slot noTask (ended-off E z L S) t in
+      let k = block-ready L S (E .blocks) (block-done E z) t in
+      rw (E .emptied) ((λ q. k .0 (e .0 q)), λ q. e .1 (k .1 q))
+
+  pub delete-ready : numberOf (r .report .answer) ≡ 0 → (t : ℕ) → Ready (r .dispatcher) t ↔ (Ready d t × (t ≢ slot))
+  delete-ready z t = go (ready-or-not d slot)
+    where
+      go : Ready d slot ⊎ (Ready d slot → ⊥) → Ready (r .dispatcher) t ↔ (Ready d t × (t ≢ slot))
+      go (inl on) = ended-ready z (D .done z .ready on) t
+      go (inr off) = let w = writes-ready d slot noTask off (D .done z .not-ready off) t in ((λ q. let k = w .0 q in (k, λ e. off (subst (Ready d) e k))), λ q. w .1 (q .0))
 
 -- ---- load: empty slots
 
@@ -126,10 +159,10 @@ module _ {d : Dispatcher} {list : List TaskRecord} {r : Outcome} (S : Sound d) (
   same-created t q = all-created .others t (λ i l e. loaded-off S F z i l (rw e q))
 
   created-rule : KeepsIn d (seatAt d) → Rule d (r .dispatcher) (r .report .moves)
-  created-rule K = aside-rule d (r .dispatcher .tasks) same-created S K is-created (all-created .still)
+  created-rule K = rw (is-created, still-moves (all-created .still)) (aside-rule d (r .dispatcher .tasks) same-created d (stays-rule S K))
 
   created-ready : (t : ℕ) → Ready (r .dispatcher) t ↔ Ready d t
-  created-ready = aside-ready d (r .dispatcher .tasks) same-created is-created
+  created-ready t = rw is-created (aside-ready d (r .dispatcher .tasks) same-created t)
 
 pub load-rule : {d : Dispatcher} {list : List TaskRecord} {r : Outcome} → Sound d → KeepsIn d (seatAt d) → AllOrNone d list r → Ruled d r
 load-rule S K F = promised-rule F K (λ z. created-rule S F z K)
@@ -141,7 +174,7 @@ load-ready {d} S F t = promised-keeps (λ x. Ready x t ↔ Ready d t) F Iff·rfl
 
 pub does-rule : (c : Call) {d : Dispatcher} (r : Outcome) → Shaped d → Sound d → KeepsIn d (seatAt d) → Does c d r → Ruled d r
 does-rule (create slot priority mask) r L S K h = create-rule S K h
-does-rule (delete slot) r L S K h = delete-rule S K h
+does-rule (delete slot) r L S K h = delete-rule L S h K
 does-rule (load list) r L S K h = load-rule S K h
 does-rule (wake slot) r L S K h = wake-rule L S K h
 does-rule (block slot) r L S K h = block-rule L S K h

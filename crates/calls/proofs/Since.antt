@@ -1,4 +1,4 @@
--- Who was woken and not since blocked, by the latest call and those before it; and who is ready after one call.
+-- Who was woken and not since blocked nor deleted, by the latest call and those before it; and who is ready after one call.
 use Prim.Native.Nat.{ℕ, _<_}
 use mathlib.Core.Path.{_≡_, refl, sym, ap, subst}
 use mathlib.Core.Logic.{_≢_, _⊎_, inl, inr, _↔_}
@@ -15,7 +15,7 @@ use Rattle.dispatcher.specs.declared.Outcome.{Outcome}
 use Rattle.readiness.proofs.Keeping.{wake-ready, block-ready}
 use Rattle.calls.specs.Call.{Call, create, delete, load, wake, block, Does}
 use Rattle.calls.specs.Sequence.{Step}
-use Rattle.calls.specs.Woken.{Woke, DidBlock, Among, WokenSince}
+use Rattle.calls.specs.Woken.{Woke, DidBlock, DidDelete, Among, WokenSince}
 use Rattle.calls.proofs.Ruling.{create-ready, delete-ready, load-ready}
 
 -- ---- the calls that were made
@@ -27,23 +27,27 @@ none-since t W = go (W .later) (W .split)
     go [] e = let n = ap length e in omega arith
     go (a ∷ later) e = let n = ap length e in omega arith
 
--- the latest call woke t; or t was woken before it, and it did not block t
+-- the call blocked t or deleted it
+abbrev Ended : Step → ℕ → Type 0
+Ended s t = DidBlock s t ⊎ DidDelete s t
+
+-- the latest call woke t; or t was woken before it, and it did not end t
 module _ (s : Step) (l : List Step) (t : ℕ) where
-  since-split : WokenSince (s ∷ l) t → Woke s t ⊎ (WokenSince l t × (DidBlock s t → ⊥))
+  since-split : WokenSince (s ∷ l) t → Woke s t ⊎ (WokenSince l t × (Ended s t → ⊥))
   since-split W = go (W .later) (W .split) (W .not-since)
     where
-      go : (later : List Step) → s ∷ l ≡ later ++ (W .waking ∷ W .earlier) → ((a : Step) → Among a later → DidBlock a t → ⊥) → Woke s t ⊎ (WokenSince l t × (DidBlock s t → ⊥))
+      go : (later : List Step) → s ∷ l ≡ later ++ (W .waking ∷ W .earlier) → ((a : Step) → Among a later → Ended a t → ⊥) → Woke s t ⊎ (WokenSince l t × (Ended s t → ⊥))
       go [] e free = let same : W .waking ≡ s = cc e in inl (subst (λ (a : Step). Woke a t) same (W .woken))
       go (a ∷ later) e free =
           let rest : l ≡ later ++ (W .waking ∷ W .earlier) = cc e in
           let same : s ≡ a = cc e in
           inr (record { later = later; waking = W .waking; earlier = W .earlier; split = rest; woken = W .woken; not-since = λ b i. free b (inr i) }, free s (inl same))
 
-  since-join : Woke s t ⊎ (WokenSince l t × (DidBlock s t → ⊥)) → WokenSince (s ∷ l) t
+  since-join : Woke s t ⊎ (WokenSince l t × (Ended s t → ⊥)) → WokenSince (s ∷ l) t
   since-join (inl w) = record { later = []; waking = s; earlier = l; split = refl; woken = w; not-since = λ a i. absurd i }
   since-join (inr (W, free)) = record { later = s ∷ W .later; waking = W .waking; earlier = W .earlier; split = ap (λ (x : List Step). s ∷ x) (W .split); woken = W .woken; not-since = none }
     where
-      none : (a : Step) → Among a (s ∷ W .later) → DidBlock a t → ⊥
+      none : (a : Step) → Among a (s ∷ W .later) → Ended a t → ⊥
       none a (inl e) = rw e free
       none a (inr i) = W .not-since a i
 
@@ -52,10 +56,10 @@ module _ (s : Step) (l : List Step) (t : ℕ) where
 -- the calls are told apart by their kind, and by their slot
 abbrev kind : Call → ℕ
 kind (create slot priority mask) = 0
-kind (delete slot) = 1
-kind (load list) = 2
-kind (wake slot) = 3
-kind (block slot) = 4
+kind (load list) = 1
+kind (wake slot) = 2
+kind (block slot) = 3
+kind (delete slot) = 4
 
 abbrev slotOf : Call → ℕ
 slotOf (create slot priority mask) = slot
@@ -67,50 +71,66 @@ slotOf (block slot) = slot
 abbrev step : Call → Outcome → Step
 step c r = record { call = c; outcome = r }
 
--- ready after the call s on d are the slot that it woke, and those who were ready and that it did not block
+-- ready after the call s on d are the slot that it woke, and those who were ready and that it did not end
 abbrev ReadyAfter : Step → Dispatcher → ℕ → Type 0
-ReadyAfter s d t = Ready (s .outcome .dispatcher) t ↔ (Woke s t ⊎ (Ready d t × (DidBlock s t → ⊥)))
+ReadyAfter s d t = Ready (s .outcome .dispatcher) t ↔ (Woke s t ⊎ (Ready d t × (Ended s t → ⊥)))
+
+ended-done : (s : Step) {t : ℕ} → Ended s t → numberOf (s .outcome .report .answer) ≡ 0
+ended-done s (inl b) = b .1
+ended-done s (inr b) = b .1
+
+-- only a block and a delete end a task
+not-ended : {t : ℕ} (s : Step) → kind (s .call) < 3 → Ended s t → ⊥
+not-ended s aside (inl b) = let k = ap kind (b .0) in omega arith
+not-ended s aside (inr b) = let k = ap kind (b .0) in omega arith
 
 refused-after : {rs : List Refusal} {d : Dispatcher} {P : Outcome → Type 0} (s : Step) → Promised rs d P (s .outcome) → numberOf (s .outcome .report .answer) ≢ 0 → (t : ℕ) → ReadyAfter s d t
-refused-after {d = d} s h z t = rw (h .kept z) ((λ r. inr (r, λ b. z (b .1))), back)
+refused-after {d = d} s h z t = rw (h .kept z) ((λ r. inr (r, λ b. z (ended-done s b))), back)
   where
-    back : Woke s t ⊎ (Ready d t × (DidBlock s t → ⊥)) → Ready d t
+    back : Woke s t ⊎ (Ready d t × (Ended s t → ⊥)) → Ready d t
     back (inl w) = absurd (z (w .1))
     back (inr r) = r .0
 
--- create, delete and load
-aside-after : {d : Dispatcher} (s : Step) → kind (s .call) < 3 → (t : ℕ) → Ready (s .outcome .dispatcher) t ↔ Ready d t → ReadyAfter s d t
-aside-after {d} s aside t same = ((λ r. inr (same .0 r, not-blocked)), back)
+-- create and load
+aside-after : {d : Dispatcher} (s : Step) → kind (s .call) < 2 → (t : ℕ) → Ready (s .outcome .dispatcher) t ↔ Ready d t → ReadyAfter s d t
+aside-after {d} s aside t same = ((λ r. inr (same .0 r, not-ended s (omega arith))), back)
   where
-    not-blocked : DidBlock s t → ⊥
-    not-blocked b = let k = ap kind (b .0) in omega arith
-
-    back : Woke s t ⊎ (Ready d t × (DidBlock s t → ⊥)) → Ready (s .outcome .dispatcher) t
+    back : Woke s t ⊎ (Ready d t × (Ended s t → ⊥)) → Ready (s .outcome .dispatcher) t
     back (inl w) = let k = ap kind (w .0) in absurd (omega arith)
     back (inr r) = same .1 (r .0)
+
+-- a call that ends the task of its slot, and so wakes none
+ends-after : {d : Dispatcher} {t : ℕ} (s : Step) → 2 < kind (s .call) → (slotOf (s .call) ≡ t → Ended s t) → Ready (s .outcome .dispatcher) t ↔ (Ready d t × (t ≢ slotOf (s .call))) → ReadyAfter s d t
+ends-after {d} {t} s ends ended h = ((λ q. let k = h .0 q in inr (k .0, λ b. k .1 (sym (slot b)))), λ q. h .1 (back q))
+  where
+    slot : Ended s t → slotOf (s .call) ≡ t
+    slot (inl b) = ap slotOf (b .0)
+    slot (inr b) = ap slotOf (b .0)
+
+    back : Woke s t ⊎ (Ready d t × (Ended s t → ⊥)) → Ready d t × (t ≢ slotOf (s .call))
+    back (inl w) = let k = ap kind (w .0) in absurd (omega arith)
+    back (inr (q, free)) = (q, λ e. free (ended (sym e)))
 
 module _ {d : Dispatcher} {slot : ℕ} (r : Outcome) (z : numberOf (r .report .answer) ≡ 0) (t : ℕ) where
   wake-after : Ready (r .dispatcher) t ↔ (Ready d t ⊎ (t ≡ slot)) → ReadyAfter (step (wake slot) r) d t
   wake-after h = ((λ q. there (h .0 q)), λ q. h .1 (back q))
     where
-      there : Ready d t ⊎ (t ≡ slot) → Woke (step (wake slot) r) t ⊎ (Ready d t × (DidBlock (step (wake slot) r) t → ⊥))
-      there (inl q) = inr (q, λ b. let k = ap kind (b .0) in omega arith)
+      there : Ready d t ⊎ (t ≡ slot) → Woke (step (wake slot) r) t ⊎ (Ready d t × (Ended (step (wake slot) r) t → ⊥))
+      there (inl q) = inr (q, not-ended (step (wake slot) r) (omega arith))
       there (inr e) = inl (ap wake (sym e), z)
 
-      back : Woke (step (wake slot) r) t ⊎ (Ready d t × (DidBlock (step (wake slot) r) t → ⊥)) → Ready d t ⊎ (t ≡ slot)
+      back : Woke (step (wake slot) r) t ⊎ (Ready d t × (Ended (step (wake slot) r) t → ⊥)) → Ready d t ⊎ (t ≡ slot)
       back (inl w) = inr (sym (ap slotOf (w .0)))
       back (inr q) = inl (q .0)
 
   block-after : Ready (r .dispatcher) t ↔ (Ready d t × (t ≢ slot)) → ReadyAfter (step (block slot) r) d t
-  block-after h = ((λ q. let k = h .0 q in inr (k .0, λ b. k .1 (sym (ap slotOf (b .0))))), λ q. h .1 (back q))
-    where
-      back : Woke (step (block slot) r) t ⊎ (Ready d t × (DidBlock (step (block slot) r) t → ⊥)) → Ready d t × (t ≢ slot)
-      back (inl w) = let k = ap kind (w .0) in absurd (omega arith)
-      back (inr (q, free)) = (q, λ e. free (ap block (sym e), z))
+  block-after h = ends-after (step (block slot) r) (omega arith) (λ e. inl (ap block e, z)) h
+
+  delete-after : Ready (r .dispatcher) t ↔ (Ready d t × (t ≢ slot)) → ReadyAfter (step (delete slot) r) d t
+  delete-after h = ends-after (step (delete slot) r) (omega arith) (λ e. inr (ap delete e, z)) h
 
 does-ready : (c : Call) {d : Dispatcher} (r : Outcome) → Shaped d → Sound d → Does c d r → (t : ℕ) → ReadyAfter (step c r) d t
 does-ready (create slot priority mask) r L S h t = aside-after (step (create slot priority mask) r) (omega arith) t (create-ready S h t)
-does-ready (delete slot) r L S h t = aside-after (step (delete slot) r) (omega arith) t (delete-ready h t)
 does-ready (load list) r L S h t = aside-after (step (load list) r) (omega arith) t (load-ready S h t)
 does-ready (wake slot) {d} r L S h t = go (ℕ-discrete (numberOf (r .report .answer)) 0)
   where
@@ -122,6 +142,11 @@ does-ready (block slot) {d} r L S h t = go (ℕ-discrete (numberOf (r .report .a
     go : Dec (numberOf (r .report .answer) ≡ 0) → ReadyAfter (step (block slot) r) d t
     go (yes z) = block-after r z t (block-ready L S h z t)
     go (no z) = refused-after (step (block slot) r) h z t
+does-ready (delete slot) {d} r L S h t = go (ℕ-discrete (numberOf (r .report .answer)) 0)
+  where
+    go : Dec (numberOf (r .report .answer) ≡ 0) → ReadyAfter (step (delete slot) r) d t
+    go (yes z) = delete-after r z t (delete-ready L S h z t)
+    go (no z) = refused-after (step (delete slot) r) h z t
 
 pub since-ready : (s : Step) (l : List Step) (d : Dispatcher) (t : ℕ) → Shaped d → Sound d → Does (s .call) d (s .outcome) → Ready d t ↔ WokenSince l t
     → Ready (s .outcome .dispatcher) t ↔ WokenSince (s ∷ l) t
@@ -130,10 +155,10 @@ since-ready s l d t L S h same = ((λ q. since-join s l t (forth (after .0 q))),
     after : ReadyAfter s d t
     after = does-ready (s .call) (s .outcome) L S h t
 
-    forth : Woke s t ⊎ (Ready d t × (DidBlock s t → ⊥)) → Woke s t ⊎ (WokenSince l t × (DidBlock s t → ⊥))
+    forth : Woke s t ⊎ (Ready d t × (Ended s t → ⊥)) → Woke s t ⊎ (WokenSince l t × (Ended s t → ⊥))
     forth (inl w) = inl w
     forth (inr q) = inr (same .0 (q .0), q .1)
 
-    back : Woke s t ⊎ (WokenSince l t × (DidBlock s t → ⊥)) → Woke s t ⊎ (Ready d t × (DidBlock s t → ⊥))
+    back : Woke s t ⊎ (WokenSince l t × (Ended s t → ⊥)) → Woke s t ⊎ (Ready d t × (Ended s t → ⊥))
     back (inl w) = inl w
     back (inr q) = inr (same .1 (q .0), q .1)

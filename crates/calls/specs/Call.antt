@@ -8,10 +8,10 @@ use Rattle.dispatcher.specs.declared.TaskRecord.{TaskRecord}
 use Rattle.dispatcher.specs.declared.Dispatcher.{Dispatcher}
 use Rattle.dispatcher.specs.declared.Outcome.{Outcome}
 use Rattle.tasks.specs.Create.{createRefusals, Creates}
-use Rattle.tasks.specs.Delete.{deleteRefusals, Deletes}
 use Rattle.boot.specs.Load.{loadRefusals, AllOrNone}
 use Rattle.readiness.specs.Wake.{wakeRefusals, Wakes}
 use Rattle.readiness.specs.Block.{blockRefusals, Blocks}
+use Rattle.deletion.specs.Delete.{deleteRefusals, Deletes}
 
 pub data Call : Type 0 where
   create : (slot priority mask : ℕ) → Call

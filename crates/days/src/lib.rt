@@ -132,7 +132,7 @@ pub fn step(file: &[u8], k: usize, d: Dispatcher, buffer: &mut [u8]) -> Stepped
         ),
         FileCall::Wake(slot) => told(d, k, 1, slot, readiness::wake(d, slot), buffer),
         FileCall::Block(slot) => told(d, k, 2, slot, readiness::block(d, slot), buffer),
-        FileCall::Delete(slot) => told(d, k, 3, slot, tasks::delete(d, slot), buffer),
+        FileCall::Delete(slot) => told(d, k, 3, slot, deletion::delete(d, slot), buffer),
         FileCall::NoCall => Stepped {
             written: Written {
                 answer: Answer::Done,

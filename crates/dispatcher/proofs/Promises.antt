@@ -66,6 +66,18 @@ answers-then rs more {k} h g = record { listed = λ y. applies-right rs more k (
     go m (inl a) = absurd (none-applies h refl m a)
     go m (inr a) = g .lowest m a
 
+-- the answer is none of the later rows'
+pub answers-left : (rs more : List Refusal) {n : ℕ} → (Applies more n → ⊥) → Answers (rs ++ more) n → Answers rs n
+answers-left rs more {n} out h = record { listed = λ z. go (applies-split rs more n (h .listed z)); lowest = λ m a. h .lowest m (applies-left rs more m a) }
+  where
+    go : Applies rs n ⊎ Applies more n → Applies rs n
+    go (inl a) = a
+    go (inr a) = absurd (out a)
+
+-- the answer is higher than the first rows' numbers, so none of them applies
+pub answers-past : (rs more : List Refusal) {n : ℕ} → ((m : ℕ) → Applies rs m → m < n) → Answers (rs ++ more) n → Answers rs 0
+answers-past rs more above h = record { listed = λ z. absurd (z refl); lowest = λ m a. let l = above m a in let k = h .lowest m (applies-left rs more m a) in absurd (omega (arith, l, k .1)) }
+
 -- ---- one row
 
 pub answers-one : {P : Type 0} (k : ℕ) → 0 < k → P → Answers (k when P ∷ []) k

@@ -7,12 +7,13 @@ use mathlib.Core.List.{List}
 use native.Mathlib.Decide.{ℕ-discrete}
 use native.Mathlib.Omega.{arith}
 use lib.Dec.{eqb}
-use Rattle.dispatcher.specs.Answers.{numberOf, Refusal, Answers}
+use Rattle.laws.specs.Lists.{All}
+use Rattle.dispatcher.specs.Answers.{numberOf, unusedNumbers, Refusal, Answers}
 use Rattle.dispatcher.specs.Reports.{stillOf}
 use Rattle.dispatcher.specs.Promise.{Promised}
 use Rattle.dispatcher.specs.Fresh.{Freshly}
 use Rattle.dispatcher.specs.declared.Answer.{Answer}
-use Rattle.dispatcher.specs.declared.Answer.the-variants.{Done, NotSound, CoreCount, SlotAbove, SlotInUse, SlotEmpty, PriorityZero, MaskEmpty, MissingCore, AlreadyReady, NotReady, StillReady, FileShort, BytesAfter, BadKind, LineLong, EventCount}
+use Rattle.dispatcher.specs.declared.Answer.the-variants.{Done, NotSound, CoreCount, SlotAbove, SlotInUse, SlotEmpty, PriorityZero, MaskEmpty, MissingCore, AlreadyReady, NotReady, FileShort, BytesAfter, BadKind, LineLong, EventCount}
 use Rattle.dispatcher.specs.declared.Dispatcher.{Dispatcher}
 use Rattle.dispatcher.specs.declared.Outcome.{Outcome}
 
@@ -22,8 +23,8 @@ answerOf : ℕ → Answer
 answerOf n =
     cond (eqb n 0) Done (cond (eqb n 1) NotSound (cond (eqb n 2) CoreCount (cond (eqb n 3) SlotAbove (cond (eqb n 4) SlotInUse
     (cond (eqb n 5) SlotEmpty (cond (eqb n 6) PriorityZero (cond (eqb n 7) MaskEmpty (cond (eqb n 8) MissingCore
-    (cond (eqb n 9) AlreadyReady (cond (eqb n 10) NotReady (cond (eqb n 11) StillReady (cond (eqb n 12) FileShort (cond (eqb n 13) BytesAfter
-    (cond (eqb n 14) BadKind (cond (eqb n 15) LineLong EventCount)))))))))))))))
+    (cond (eqb n 9) AlreadyReady (cond (eqb n 10) NotReady (cond (eqb n 12) FileShort (cond (eqb n 13) BytesAfter
+    (cond (eqb n 14) BadKind (cond (eqb n 15) LineLong EventCount))))))))))))))
 
 answer-back : (a : Answer) → answerOf (numberOf a) ≡ a
 unfolding answerOf
@@ -38,7 +39,6 @@ answer-back MaskEmpty = refl
 answer-back MissingCore = refl
 answer-back AlreadyReady = refl
 answer-back NotReady = refl
-answer-back StillReady = refl
 answer-back FileShort = refl
 answer-back BytesAfter = refl
 answer-back BadKind = refl
@@ -47,6 +47,11 @@ answer-back EventCount = refl
 
 pub number-same : {a b : Answer} → numberOf a ≡ numberOf b → a ≡ b
 number-same {a} {b} e = sym (answer-back a) ∙ ap answerOf e ∙ answer-back b
+
+-- an unused number belongs to none
+pub unused-never : (a : Answer) → All (λ n. numberOf a ≢ n) unusedNumbers
+unfolding answerOf
+unused-never a = ((λ e. let k = ap numberOf (sym (answer-back a) ∙ ap answerOf e) in omega (arith, e, k)), tt)
 
 -- ---- a list of refusals allows one answer
 

@@ -4,7 +4,7 @@ use mathlib.Core.Path.{_≡_}
 use mathlib.Core.Logic.{_≢_, _⊎_}
 use mathlib.Core.List.{List, [], _∷_}
 use Rattle.dispatcher.specs.declared.Answer.{Answer}
-use Rattle.dispatcher.specs.declared.Answer.the-variants.{Done, NotSound, CoreCount, SlotAbove, SlotInUse, SlotEmpty, PriorityZero, MaskEmpty, MissingCore, AlreadyReady, NotReady, StillReady, FileShort, BytesAfter, BadKind, LineLong, EventCount}
+use Rattle.dispatcher.specs.declared.Answer.the-variants.{Done, NotSound, CoreCount, SlotAbove, SlotInUse, SlotEmpty, PriorityZero, MaskEmpty, MissingCore, AlreadyReady, NotReady, FileShort, BytesAfter, BadKind, LineLong, EventCount}
 
 infix 80 _when_
 abbrev pub numberOf : Answer → ℕ
@@ -19,12 +19,15 @@ numberOf MaskEmpty = 7
 numberOf MissingCore = 8
 numberOf AlreadyReady = 9
 numberOf NotReady = 10
-numberOf StillReady = 11
 numberOf FileShort = 12
 numberOf BytesAfter = 13
 numberOf BadKind = 14
 numberOf LineLong = 15
 numberOf EventCount = 16
+
+-- numbers that are no answer's any more and stay unused: 11, for delete of a task that was still ready
+abbrev pub unusedNumbers : List ℕ
+unusedNumbers = 11 ∷ []
 
 -- a row of the table: a number, and when it is given
 pub record Refusal : Type 1 where

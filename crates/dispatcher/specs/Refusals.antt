@@ -46,7 +46,3 @@ IsAlreadyReady d slot = Ready d slot
 -- 10: not ready
 abbrev pub IsNotReady : Dispatcher → ℕ → Type 0
 IsNotReady d slot = Ready d slot → ⊥
-
--- 11: still ready
-abbrev pub IsStillReady : Dispatcher → ℕ → Type 0
-IsStillReady d slot = Ready d slot

@@ -51,7 +51,7 @@ pub struct TaskRecord {
     pub mask: u32,
 }
 
-// What a call answers. `number` gives document 01's number.
+// What a call answers. `number` gives document 01's number; 11, which delete of a ready task once gave, is no answer's.
 pub enum Answer {
     Done,
     NotSound,
@@ -64,7 +64,6 @@ pub enum Answer {
     MissingCore,
     AlreadyReady,
     NotReady,
-    StillReady,
     FileShort,
     BytesAfter,
     BadKind,
@@ -88,7 +87,6 @@ impl Answer {
             Answer::MissingCore => 8,
             Answer::AlreadyReady => 9,
             Answer::NotReady => 10,
-            Answer::StillReady => 11,
             Answer::FileShort => 12,
             Answer::BytesAfter => 13,
             Answer::BadKind => 14,

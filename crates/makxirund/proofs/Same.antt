@@ -11,11 +11,12 @@ use Rattle.dispatcher.specs.declared.Outcome.{Outcome}
 use Rattle.dispatcher.specs.declared.PlainReport.{PlainReport}
 use Rattle.dispatcher.proofs.Same.{freshly-same}
 use Rattle.tasks.specs.Create.{Creates}
-use Rattle.tasks.specs.Delete.{Deletes}
-use Rattle.tasks.proofs.Same.{creates-same, deletes-same}
+use Rattle.tasks.proofs.Same.{creates-same}
 use Rattle.readiness.specs.Wake.{Wakes}
 use Rattle.readiness.specs.Block.{Blocks}
 use Rattle.readiness.proofs.Same.{wakes-same, blocks-same}
+use Rattle.deletion.specs.Delete.{Deletes}
+use Rattle.deletion.proofs.Same.{deletes-same}
 use Rattle.boot.specs.Load.{Loads}
 use Rattle.boot.specs.declared.Loaded.{Loaded}
 use Rattle.boot.proofs.Same.{loads-same}

@@ -6,9 +6,9 @@ ghost use Rattle.dispatcher.specs.Answers.{_when_, Answers};
 ghost use Rattle.dispatcher.specs.Refusals.{IsUnsound};
 ghost use Rattle.dispatcher.specs.Fresh.{Freshly};
 ghost use Rattle.tasks.specs.Create.{Creates};
-ghost use Rattle.tasks.specs.Delete.{Deletes};
 ghost use Rattle.readiness.specs.Wake.{Wakes};
 ghost use Rattle.readiness.specs.Block.{Blocks};
+ghost use Rattle.deletion.specs.Delete.{Deletes};
 ghost use Rattle.boot.specs.Load.{Loads};
 ghost use Rattle.files.specs.Reading.{Reads, ReadsRecord, ReadsEvent};
 ghost use Rattle.lines.specs.Line.{Writes, WritesFault};
@@ -92,7 +92,7 @@ pub extern "C" fn makxirund_create(
 pub extern "C" fn makxirund_delete(d: &mut Dispatcher, slot: u16) -> PlainReport
     ensures { λ r. ⌜ InPlace (Deletes (now (d .entry)) slot) (now (d .exit)) r ⌝ }
 {
-    let made = tasks::delete(*d, slot);
+    let made = deletion::delete(*d, slot);
     *d = made.dispatcher;
     let report = made.report;
     report.plain()

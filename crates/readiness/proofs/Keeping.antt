@@ -1,6 +1,6 @@
 -- Wake and block keep a dispatcher sound and keep demands 2 and 3; and who is ready afterwards.
 use Prim.Native.Nat.{ℕ, _<_}
-use mathlib.Core.Path.{_≡_, refl, sym, _∙_}
+use mathlib.Core.Path.{_≡_, refl, sym, ap, _∙_}
 use mathlib.Core.Logic.{_≢_, _⊎_, inl, inr, _↔_}
 use mathlib.Core.List.{List}
 use native.Mathlib.Decide.{ℕ-discrete}
@@ -17,6 +17,7 @@ use Rattle.dispatcher.specs.Slots.{taskAt, seatAt, Used, Ready, Shaped}
 use Rattle.dispatcher.specs.Sound.{Sound}
 use Rattle.dispatcher.specs.Answers.{numberOf, Refusal}
 use Rattle.dispatcher.specs.Promise.{Promised}
+use Rattle.dispatcher.specs.declared.Report.{Report}
 use Rattle.dispatcher.specs.declared.Dispatcher.{Dispatcher}
 use Rattle.dispatcher.specs.declared.Outcome.{Outcome}
 use Rattle.dispatcher.proofs.Promises.{none-applies, slot-below}
@@ -179,7 +180,7 @@ module _ {d : Dispatcher} {slot z : ℕ} {r : Outcome} (L : Shaped d) (S : Sound
 
 -- ---- a block
 
-module _ {d : Dispatcher} {slot : ℕ} {r : Outcome} (L : Shaped d) (S : Sound d) (B : Blocks d slot r) where
+module _ {d : Dispatcher} {slot : ℕ} {r : Outcome} (B : Blocks d slot r) where
   -- who is blocked ran on some core, or waited
   ran-or-waited : numberOf (r .report .answer) ≡ 0 → Runs d slot ⊎ Waits d slot
   ran-or-waited y = go (runs-dec (d .cores) none (seatAt d) slot)
@@ -188,8 +189,20 @@ module _ {d : Dispatcher} {slot : ℕ} {r : Outcome} (L : Shaped d) (S : Sound d
       go (inl on) = inl on
       go (inr off) = inr (record { ready = block-was B y; off = off })
 
+  pub block-stops-nobody : r .report .stopped ≡ none
+  block-stops-nobody = go (ℕ-discrete (numberOf (r .report .answer)) 0)
+    where
+      done : (y : numberOf (r .report .answer) ≡ 0) → Runs d slot ⊎ Waits d slot → r .report .stopped ≡ none
+      done y (inl on) = B .done y .ran (on .core) (on .below) (on .sits) .stops
+      done y (inr w) = ap (λ (x : Report). x .stopped) (B .done y .waited w .1)
+
+      go : Dec (numberOf (r .report .answer) ≡ 0) → r .report .stopped ≡ none
+      go (yes y) = done y (ran-or-waited y)
+      go (no n) = ap (λ (x : Report). x .stopped) (B .still n)
+
+module _ {d : Dispatcher} {slot : ℕ} {r : Outcome} (L : Shaped d) (S : Sound d) (B : Blocks d slot r) where
   pub block-keeps : Shaped (r .dispatcher) × Sound (r .dispatcher)
-  block-keeps = promised-keeps (λ x. Shaped x × Sound x) B (L, S) (λ y. done y (ran-or-waited y))
+  block-keeps = promised-keeps (λ x. Shaped x × Sound x) B (L, S) (λ y. done y (ran-or-waited B y))
     where
       done : (y : numberOf (r .report .answer) ≡ 0) → Runs d slot ⊎ Waits d slot → Shaped (r .dispatcher) × Sound (r .dispatcher)
       done y (inl on) =
@@ -198,14 +211,14 @@ module _ {d : Dispatcher} {slot : ℕ} {r : Outcome} (L : Shaped d) (S : Sound d
       done y (inr w) = rw (B .done y .waited w .0) (waited-keeps L S w)
 
   pub block-ready : numberOf (r .report .answer) ≡ 0 → (t : ℕ) → Ready (r .dispatcher) t ↔ (Ready d t × (t ≢ slot))
-  block-ready y t = go (ran-or-waited y)
+  block-ready y t = go (ran-or-waited B y)
     where
       go : Runs d slot ⊎ Waits d slot → Ready (r .dispatcher) t ↔ (Ready d t × (t ≢ slot))
       go (inl on) = rw (B .done y .ran (on .core) (on .below) (on .sits) .rest) (gone-ready slot L S (r .dispatcher .seats) t)
       go (inr w) = rw (B .done y .waited w .0) (gone-ready slot L S (d .seats) t)
 
 pub block-rule : {d : Dispatcher} {slot : ℕ} {r : Outcome} → Shaped d → Sound d → KeepsIn d (seatAt d) → Blocks d slot r → Ruled d r
-block-rule {d} {slot} {r} L S K B = promised-rule B K (λ y. done y (ran-or-waited L S B y))
+block-rule {d} {slot} {r} L S K B = promised-rule B K (λ y. done y (ran-or-waited B y))
   where
     done : (y : numberOf (r .report .answer) ≡ 0) → Runs d slot ⊎ Waits d slot → Rule d (r .dispatcher) (r .report .moves)
     done y (inl on) = ran-rule L S (on .below) (on .sits) (B .done y .ran (on .core) (on .below) (on .sits)) (block-was B y) K

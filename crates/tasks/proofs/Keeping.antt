@@ -1,4 +1,4 @@
--- Create and delete keep a dispatcher sound; a slot that was created is not ready.
+-- A slot that is not ready gets another task, none or a legal one: the dispatcher stays sound, and so create keeps it; a slot that was created is not ready.
 use Prim.Native.Nat.{ℕ, _≤_, _<_}
 use mathlib.Core.Path.{_≡_, refl, _∙_, subst}
 use mathlib.Core.Logic.{_≢_, inl, inr}
@@ -17,13 +17,8 @@ use Rattle.dispatcher.specs.declared.Outcome.{Outcome}
 use Rattle.dispatcher.proofs.Promises.{none-applies, slot-below}
 use Rattle.tasks.specs.Table.{withTask}
 use Rattle.tasks.specs.Create.{Creates}
-use Rattle.tasks.specs.Delete.{Deletes}
 use Rattle.dispatcher.proofs.Ready.{ready-used}
 
-with-task-shaped : {d : Dispatcher} (slot : ℕ) (t : Task) → Shaped d → Shaped (withTask d slot t)
-with-task-shaped {d} slot t L = record { tasks = length-set (d .tasks) slot t ∙ L .tasks; order = L .order; seats = L .seats }
-
--- a slot that is not ready gets another task, none or a legal one
 module _ {d : Dispatcher} {slot : ℕ} {t : Task} (L : Shaped d) (S : Sound d) (below : slot < slotLimit) (off : Ready d slot → ⊥) (legal : Used t → LegalTask (d .cores) t) where
   here : taskAt (withTask d slot t) slot ≡ t
   here = getD-set-same (d .tasks) slot t noTask (rw (L .tasks) below)
@@ -47,14 +42,17 @@ module _ {d : Dispatcher} {slot : ℕ} {t : Task} (L : Shaped d) (S : Sound d) (
       moved : seatAt d c ≢ slot
       moved q = off (subst (Ready d) q (s .ready))
 
-  with-task-sound : Sound (withTask d slot t)
-  with-task-sound = record {
+  sound : Sound (withTask d slot t)
+  sound = record {
     count = S .count;
     slots = λ s l. kept-slot s l (ℕ-discrete s slot);
     order = λ k l o. kept-place k l (S .order k l o);
     missing = S .missing;
     seats = λ c l o. kept-seat c (S .seats c l o);
   }
+
+  pub with-task-keeps : Shaped (withTask d slot t) × Sound (withTask d slot t)
+  with-task-keeps = (record { tasks = length-set (d .tasks) slot t ∙ L .tasks; order = L .order; seats = L .seats }, sound)
 
 -- ---- create
 
@@ -85,20 +83,5 @@ create-keeps {d} {r} L S byte C = go (ℕ-discrete (numberOf (r .report .answer)
     go : Dec (numberOf (r .report .answer) ≡ 0) → Shaped (r .dispatcher) × Sound (r .dispatcher)
     go (yes z) =
         let below = slot-below (C .answer) z in
-        rw (C .done z .written) (with-task-shaped _ _ L, with-task-sound L S below (created-off S C z) (λ _. create-legal S C z byte))
+        rw (C .done z .written) (with-task-keeps L S below (created-off S C z) (λ _. create-legal S C z byte))
     go (no z) = rw (C .kept z) (L, S)
-
--- ---- delete
-
-pub delete-keeps : {d : Dispatcher} {slot : ℕ} {r : Outcome} → Shaped d → Sound d → Deletes d slot r → Shaped (r .dispatcher) × Sound (r .dispatcher)
-delete-keeps {d} {slot} {r} L S D = go (ℕ-discrete (numberOf (r .report .answer)) 0)
-  where
-    empty : Used noTask → LegalTask (d .cores) noTask
-    empty u = absurd (u (refl, refl))
-
-    go : Dec (numberOf (r .report .answer) ≡ 0) → Shaped (r .dispatcher) × Sound (r .dispatcher)
-    go (yes z) =
-        let below = slot-below (D .answer) z in
-        let off : Ready d slot → ⊥ = λ q. none-applies (D .answer) z 11 (inr (inr (inr (inl (refl, q))))) in
-        rw (D .done z .written) (with-task-shaped _ _ L, with-task-sound L S below off empty)
-    go (no z) = rw (D .kept z) (L, S)

@@ -1,4 +1,4 @@
-mod Settling
+pub mod Settling
 pub mod Model
 pub mod Same
 pub mod Keeping

@@ -1,4 +1,4 @@
--- What create and delete do, as functions that compute, over what the test of soundness says; and that they meet the promises.
+-- What create does, as a function that computes, over what the test of soundness says; and that it meets the promise.
 use Prim.Native.Nat.{ℕ, _/_, _^_, _<_}
 use mathlib.Core.Path.{refl}
 use mathlib.Core.Bool.{Bool, not, cond}
@@ -10,21 +10,21 @@ use Rattle.laws.specs.Decides.{Decides}
 use Rattle.laws.proofs.Deciding.{decides-not, decides-eq, decides-le}
 use Rattle.masks.proofs.Bits.{names-test}
 use Rattle.dispatcher.specs.Limits.{slotLimit}
-use Rattle.dispatcher.specs.Slots.{noTask, taskAt}
+use Rattle.dispatcher.specs.Slots.{taskAt}
 use Rattle.dispatcher.specs.Sound.{Sound}
 use Rattle.dispatcher.specs.Answers.{numberOf, _when_, Answers}
 use Rattle.dispatcher.specs.Reports.{stillOf}
 use Rattle.dispatcher.specs.declared.Answer.{Answer}
-use Rattle.dispatcher.specs.declared.Answer.the-variants.{NotSound, SlotAbove, SlotInUse, SlotEmpty, PriorityZero, MaskEmpty, MissingCore, StillReady}
+use Rattle.dispatcher.specs.declared.Answer.the-variants.{NotSound, SlotAbove, SlotInUse, SlotEmpty, PriorityZero, MaskEmpty, MissingCore}
 use Rattle.dispatcher.specs.declared.Task.{Task}
+use Rattle.dispatcher.specs.declared.Report.{Report}
 use Rattle.dispatcher.specs.declared.Dispatcher.{Dispatcher}
 use Rattle.dispatcher.specs.declared.Outcome.{Outcome}
 use Rattle.dispatcher.proofs.Judging.{Test, test, firstOf, Judges, judged}
-use Rattle.dispatcher.proofs.Testing.{emptyTest, empty-decides, used-decides, readyTest, ready-decides}
+use Rattle.dispatcher.proofs.Testing.{emptyTest, empty-decides, used-decides}
 use Rattle.tasks.specs.Table.{withTask, Settles}
 use Rattle.tasks.specs.Named.{namedRefusals}
 use Rattle.tasks.specs.Create.{entryRefusals, createRefusals, Creates}
-use Rattle.tasks.specs.Delete.{Deletes}
 use Rattle.tasks.proofs.Settling.{settles-promised}
 
 -- ---- the answers
@@ -77,24 +77,20 @@ named-and {b} d slot {P} {f} a s p l =
     judged 0 (namedRefusals d slot ++ (numberOf a when P ∷ [])) (namedTests b d slot (test f a ∷ []))
     (decides-not s, refl, omega arith, (decides-le slotLimit slot, refl, omega arith, (empty-decides (taskAt d slot), refl, omega arith, (p, refl, l, tt))))
 
--- ---- the calls
+-- ---- the call
 
--- the dispatcher as it stood where the answer is a refusal, and the next one where it is done
+-- the dispatcher as it stood where the report is of a refusal, and the next one where it says done
+abbrev pub settledAs : Report → Dispatcher → Dispatcher → Outcome
+settledAs p d next = record { report = p; dispatcher = cond (eqb (numberOf (p .answer)) 0) next d }
+
 abbrev pub settled : Answer → Dispatcher → Dispatcher → Outcome
-settled a d next = record { report = stillOf a; dispatcher = cond (eqb (numberOf a) 0) next d }
+settled a = settledAs (stillOf a)
 
-settled-settles : {d : Dispatcher} {slot : ℕ} {t : Task} (a : Answer) → Settles d slot t a (settled a d (withTask d slot t))
-settled-settles a = record { report = refl; done = λ z. rw (eq-eqb (numberOf a) 0 z) refl; refused = λ z. rw (ne-eqb (numberOf a) 0 z) refl }
+pub settled-settles : {d : Dispatcher} {slot : ℕ} {t : Task} (p : Report) → Settles d slot t p (settledAs p d (withTask d slot t))
+settled-settles p = record { report = refl; done = λ z. rw (eq-eqb (numberOf (p .answer)) 0 z) refl; refused = λ z. rw (ne-eqb (numberOf (p .answer)) 0 z) refl }
 
 abbrev pub createOf : Bool → Dispatcher → ℕ → ℕ → ℕ → Outcome
 createOf sound d slot priority mask = settled (firstOf (createTests sound d slot priority mask)) d (withTask d slot (record { priority = priority; mask = mask }))
 
 pub create-creates : {b : Bool} (d : Dispatcher) (slot priority mask : ℕ) → Decides (Sound d) b → Creates d slot priority mask (createOf b d slot priority mask)
-create-creates {b} d slot priority mask s = settles-promised (create-answers d slot priority mask s) (settled-settles (firstOf (createTests b d slot priority mask)))
-
-abbrev pub deleteOf : Bool → Dispatcher → ℕ → Outcome
-deleteOf sound d slot = settled (firstOf (namedTests sound d slot (test (readyTest d slot) StillReady ∷ []))) d (withTask d slot noTask)
-
-pub delete-deletes : {b : Bool} (d : Dispatcher) (slot : ℕ) → Decides (Sound d) b → Deletes d slot (deleteOf b d slot)
-delete-deletes {b} d slot s =
-    settles-promised (named-and d slot StillReady s (ready-decides d slot) (omega arith)) (settled-settles (firstOf (namedTests b d slot (test (readyTest d slot) StillReady ∷ []))))
+create-creates {b} d slot priority mask s = settles-promised (create-answers d slot priority mask s) (settled-settles (stillOf (firstOf (createTests b d slot priority mask))))

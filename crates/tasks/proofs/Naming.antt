@@ -9,7 +9,7 @@ use Rattle.dispatcher.specs.declared.Dispatcher.{Dispatcher}
 use Rattle.dispatcher.proofs.Promises.{answers-first, answers-then}
 use Rattle.tasks.specs.Named.{namedRefusals}
 
-named-small : {d : Dispatcher} {slot n : ℕ} → Applies (namedRefusals d slot) n → n < 6
+pub named-small : {d : Dispatcher} {slot n : ℕ} → Applies (namedRefusals d slot) n → n < 6
 named-small (inl (e, _)) = omega arith
 named-small (inr (inl (e, _))) = omega arith
 named-small (inr (inr (inl (e, _)))) = omega arith

@@ -1,4 +1,4 @@
--- Any two results that the promise of create, or of delete, allows are the same.
+-- Any two results that the promise of create allows are the same.
 use Prim.Native.Nat.{ℕ}
 use mathlib.Core.Path.{_≡_, sym, ap, _∙_}
 use Rattle.dispatcher.specs.Reports.{stillOf}
@@ -8,13 +8,9 @@ use Rattle.dispatcher.specs.declared.Outcome.{Outcome}
 use Rattle.dispatcher.proofs.Same.{outcome-same, promised-same}
 use Rattle.tasks.specs.Table.{Writes}
 use Rattle.tasks.specs.Create.{Creates}
-use Rattle.tasks.specs.Delete.{Deletes}
 
-writes-same : {d : Dispatcher} {slot : ℕ} {t : Task} {r q : Outcome} → r .report .answer ≡ q .report .answer → Writes d slot t r → Writes d slot t q → r ≡ q
+pub writes-same : {d : Dispatcher} {slot : ℕ} {t : Task} {r q : Outcome} → r .report .answer ≡ q .report .answer → Writes d slot t r → Writes d slot t q → r ≡ q
 writes-same e a b = outcome-same (a .still ∙ ap stillOf e ∙ sym (b .still)) (a .written ∙ sym (b .written))
 
 pub creates-same : {d : Dispatcher} {slot priority mask : ℕ} {r q : Outcome} → Creates d slot priority mask r → Creates d slot priority mask q → r ≡ q
 creates-same = promised-same writes-same
-
-pub deletes-same : {d : Dispatcher} {slot : ℕ} {r q : Outcome} → Deletes d slot r → Deletes d slot q → r ≡ q
-deletes-same = promised-same writes-same

@@ -12,7 +12,7 @@ use Rattle.dispatcher.specs.declared.Dispatcher.{Dispatcher}
 use Rattle.dispatcher.specs.declared.Outcome.{Outcome}
 use Rattle.tasks.specs.Table.{Writes, Settles}
 
-pub settles-promised : {rs : List Refusal} {d : Dispatcher} {slot : ℕ} {t : Task} {a : Answer} {r : Outcome} → Answers rs (numberOf a) → Settles d slot t a r → Promised rs d (Writes d slot t) r
+pub settles-promised : {rs : List Refusal} {d : Dispatcher} {slot : ℕ} {t : Task} {a : Answer} {r : Outcome} → Answers rs (numberOf a) → Settles d slot t (stillOf a) r → Promised rs d (Writes d slot t) r
 settles-promised {a} {r} h s = record {
   answer = rw number h;
   done = λ z. record { written = s .done (sym number ∙ z); still = own };

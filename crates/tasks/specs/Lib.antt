@@ -1,4 +1,3 @@
 pub mod Table
 pub mod Named
 pub mod Create
-pub mod Delete

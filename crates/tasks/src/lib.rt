@@ -1,4 +1,4 @@
-// Create and delete by value: a slot is filled, not ready, or emptied.
+// Create by value: a slot is filled, not ready. And what every call on the task in a slot refuses first.
 ghost use mathlib.Core.Path.{_≡_};
 ghost use Prim.Native.Nat.{_<_};
 ghost use Rattle.dispatcher.specs.Limits.{slotLimit};
@@ -6,7 +6,6 @@ ghost use Rattle.dispatcher.specs.Answers.{numberOf, Answers};
 ghost use Rattle.tasks.specs.Table.{Settles};
 ghost use Rattle.tasks.specs.Named.{namedRefusals};
 ghost use Rattle.tasks.specs.Create.{entryRefusals, createRefusals, Creates};
-ghost use Rattle.tasks.specs.Delete.{deleteRefusals, Deletes};
 use dispatcher::Answer;
 use dispatcher::Dispatcher;
 use dispatcher::Outcome;
@@ -65,25 +64,12 @@ pub fn named(d: Dispatcher, slot: u16) -> Answer
     Answer::Done
 }
 
-fn delete_answer(d: Dispatcher, slot: u16) -> Answer
-    ensures { λ r. ⌜ Answers (deleteRefusals d slot) (numberOf r) ⌝ }
+// The slot gets the task where the report says done; else the dispatcher stays as it stood.
+pub fn written(d: Dispatcher, slot: u16, t: Task, report: Report) -> Outcome
+    requires { ⌜ (numberOf (report .answer) ≡ 0 → slot < slotLimit) ⌝ }
+    ensures { λ r. ⌜ Settles d slot t report r ⌝ }
 {
-    let first = named(d, slot);
-    if first.number() != 0 {
-        return first;
-    }
-    if d.is_ready(slot) {
-        return Answer::StillReady;
-    }
-    Answer::Done
-}
-
-// The slot gets the task where the answer is Done; else the dispatcher stays as it stood.
-fn written(d: Dispatcher, slot: u16, t: Task, answer: Answer) -> Outcome
-    requires { ⌜ (numberOf answer ≡ 0 → slot < slotLimit) ⌝ }
-    ensures { λ r. ⌜ Settles d slot t answer r ⌝ }
-{
-    let report = Report::still(answer);
+    let answer = report.answer;
     if answer.number() != 0 {
         return Outcome {
             report,
@@ -105,13 +91,6 @@ pub fn create(d: Dispatcher, slot: u16, priority: u8, mask: u32) -> Outcome
 {
     let answer = create_answer(d, slot, priority, mask);
     let t = Task { priority, mask };
-    written(d, slot, t, answer)
-}
-
-// Empties the slot of a task that is not ready.
-pub fn delete(d: Dispatcher, slot: u16) -> Outcome
-    ensures { λ r. ⌜ Deletes d slot r ⌝ }
-{
-    let answer = delete_answer(d, slot);
-    written(d, slot, Task::EMPTY, answer)
+    let report = Report::still(answer);
+    written(d, slot, t, report)
 }

@@ -8,11 +8,14 @@ use Rattle.tasks.proofs.create.Tie as tie
 create-answer-requires : tie.Need-create-answer-requires
 create-answer-requires c κs = search needs
 
+still-requires : tie.Need-still-requires
+still-requires c κs = search needs
+
 written-requires : tie.Need-written-requires
-written-requires c κs = slot-below (c .create-answer .ensures)
+written-requires c κs = rw (c .still .ensures) (slot-below (c .before .create-answer .ensures))
 
 returns : tie.Need-returns
-returns c = settles-promised (c .before .create-answer .ensures) (c .written .ensures)
+returns c = settles-promised (c .before .before .create-answer .ensures) (rw (c .before .still .ensures) at (c .written .ensures))
 
 pub create-spec : {M : Type 1} → statement M
-create-spec = tie.close (tie.spec create-answer-requires written-requires returns)
+create-spec = tie.close (tie.spec create-answer-requires still-requires written-requires returns)

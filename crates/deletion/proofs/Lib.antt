@@ -1,0 +1,4 @@
+mod Ending
+pub mod Model
+pub mod Same
+pub mod Keeping
