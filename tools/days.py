@@ -1,8 +1,9 @@
 """The vectors: event files, each for something that a replay may get wrong.
 
 `shows` are lines that the file must print, for most vectors worked out by hand from
-document 01. The random days and the largest file have none; an example's are those it
-quotes; in create-mixtures the slots were corrected after a run, the answers were not.
+document 01 and request 1 of document 02. The random days and the largest file have none;
+an example's are those it quotes; in create-mixtures the slots were corrected after a run,
+the answers were not.
 They keep a vector true to its purpose, whatever program writes the rest.
 """
 
@@ -34,6 +35,10 @@ def day(name, core_count, records, events, *shows):
 
 def wakes(slots):
     return [Event(WAKE, slot) for slot in slots]
+
+
+def deletes(slots):
+    return [Event(DELETE, slot) for slot in slots]
 
 
 def seats(slots):
@@ -179,18 +184,18 @@ def refusal_vectors():
             delete 255
             delete 128
             delete 127
-            delete 0       # still ready, on a core
-            delete 1       # still ready, waiting
-            delete 2       # done
+            delete 1       # done: ready, waiting
+            delete 0       # done: ready, on a core
+            delete 2       # done: not ready
             delete 2       # now empty
-            block 1
             delete 1
+            delete 0
             wake 1
             block 1
             """,
-            "6 D 255 3 0 - - 0", "7 D 128 3 0 - - 0", "8 D 127 5 0 - - 0", "9 D 0 11 0 - - 0",
-            "10 D 1 11 0 - - 0", "11 D 2 0 0 - - 0", "12 D 2 5 0 - - 0", "14 D 1 0 0 - - 0",
-            "15 W 1 5 0 - - 0", "16 B 1 5 0 - - 0"),
+            "6 D 255 3 0 - - 0", "7 D 128 3 0 - - 0", "8 D 127 5 0 - - 0", "9 D 1 0 0 - - 0",
+            "10 D 0 0 0 - - -", "11 D 2 0 0 - - -", "12 D 2 5 0 - - -", "13 D 1 5 0 - - -",
+            "14 D 0 5 0 - - -", "15 W 1 5 0 - - -", "16 B 1 5 0 - - -"),
         sheet("wake-refused", """
             cores 1
             create 0 9 0
@@ -241,16 +246,33 @@ def records_twice():
                "256 W 126 0 0 126 - 126,-", "257 W 127 0 0 - - 126,-")
 
 
-def all_slots_on_32_cores():
+def records_of_every_slot():
     """128 tasks that may run anywhere; the more urgent half pushes the other off."""
-    every = 2**32 - 1
-    records = [Record(slot, 1 + slot // 64, every) for slot in range(128)]
+    return [Record(slot, 1 + slot // 64, 2**32 - 1) for slot in range(128)]
+
+
+def all_slots_on_32_cores():
     events = wakes(range(128)) + [Event(BLOCK, slot) for slot in range(64, 96)]
-    return day("every-slot", 32, records, events,
+    return day("every-slot", 32, records_of_every_slot(), events,
                f"160 W 31 0 0 31 - {seats(range(32))}", f"161 W 32 0 0 - - {seats(range(32))}",
                f"193 W 64 0 0 64 31 {seats([*range(31), 64])}",
                f"224 W 95 0 0 95 0 {seats(range(95, 63, -1))}",
                f"257 B 64 0 0 96 - {seats([*range(95, 64, -1), 96])}")
+
+
+def all_slots_deleted():
+    """Each delete starts the next in order, until nobody waits and the cores fall idle."""
+    events = wakes(range(128)) + deletes([*range(64, 128), *range(64), 63])
+    return day("delete-every-slot", 32, records_of_every_slot(), events,
+               f"256 W 127 0 0 - - {seats(range(95, 63, -1))}",
+               f"257 D 64 0 0 96 - {seats([*range(95, 64, -1), 96])}",
+               f"288 D 95 0 0 127 - {seats(range(127, 95, -1))}",
+               f"289 D 96 0 0 0 - {seats([*range(127, 96, -1), 0])}",
+               f"320 D 127 0 0 31 - {seats(range(31, -1, -1))}",
+               f"321 D 0 0 0 32 - {seats([*range(31, 0, -1), 32])}",
+               f"352 D 31 0 0 63 - {seats(range(63, 31, -1))}",
+               f"353 D 32 0 0 - - {seats([*range(63, 32, -1), None])}",
+               f"384 D 63 0 0 - - {seats([None] * 32)}", f"385 D 63 5 0 - - {seats([None] * 32)}")
 
 
 def size_vectors():
@@ -327,25 +349,39 @@ def size_vectors():
         records_255(),
         records_twice(),
         all_slots_on_32_cores(),
+        all_slots_deleted(),
     ]
 
 
 # Long chains.
 
 
-def chain_of_32():
+def records_of_a_line():
     """Tasks 0 to 30 stand on cores 0 to 30 and may go one core on.
 
     Slot 31 is held to core 0, slot 32 to core 31 and less urgent.
     """
     records = [Record(slot, 50, 3 << slot) for slot in range(31)]
-    records += [Record(31, 50, 1), Record(32, 40, 1 << 31)]
+    return records + [Record(31, 50, 1), Record(32, 40, 1 << 31)]
+
+
+def chain_of_32():
     events = wakes(range(33)) + [Event(BLOCK, 31), Event(WAKE, 31), Event(BLOCK, 15)]
     shifted = seats([31, *range(31)])
-    return day("chain-32", 32, records, events,
+    return day("chain-32", 32, records_of_a_line(), events,
                f"65 W 31 0 31 31 - {shifted}", f"66 W 32 0 0 - - {shifted}",
                f"67 B 31 0 31 32 - {seats([*range(31), 32])}", f"68 W 31 0 31 31 32 {shifted}",
                f"69 B 15 0 15 32 - {seats([31, *range(15), *range(16, 31), 32])}")
+
+
+def chain_of_32_by_delete():
+    """The longest refill; then slot 31 is gone, and a core falls idle in the middle."""
+    events = wakes(range(33)) + deletes([31]) + wakes([31]) + deletes([15])
+    back = [*range(31), 32]
+    return day("delete-chain-32", 32, records_of_a_line(), events,
+               f"66 W 32 0 0 - - {seats([31, *range(31)])}", f"67 D 31 0 31 32 - {seats(back)}",
+               f"68 W 31 5 0 - - {seats(back)}",
+               f"69 D 15 0 0 - - {seats([*back[:15], None, *back[16:]])}")
 
 
 def chain_in_mixed_order():
@@ -596,6 +632,9 @@ def tie_vectors():
         sheet("tie-block", two_lines + "create 4 10 1-2\ncreate 5 90 6\n" + settle
               + "wake 5\nwake 4\nblock 5\n",
               "12 W 4 0 0 - - -,0,1,2,-,3,5", "13 B 5 0 2 4 - -,4,1,2,-,0,3"),
+        sheet("tie-delete", two_lines + "create 4 10 1-2\ncreate 5 90 6\n" + settle
+              + "wake 5\nwake 4\ndelete 5\n",
+              "12 W 4 0 0 - - -,0,1,2,-,3,5", "13 D 5 0 2 4 - -,4,1,2,-,0,3"),
     ]
 
 
@@ -669,11 +708,158 @@ def block_vectors():
     ]
 
 
+def delete_vectors():
+    return [
+        sheet("delete-running", """
+            cores 2
+            create 0 90 0
+            create 1 80 1
+            create 2 50 0-1
+            create 3 70 1
+            wake 0
+            wake 1
+            wake 2
+            wake 3
+            delete 0       # slot 3 comes first but reaches core 1 only: slot 2 starts
+            delete 1
+            wake 0         # its slot is empty
+            """,
+            "8 W 3 0 0 - - 0,1", "9 D 0 0 0 2 - 2,1", "10 D 1 0 0 3 - 2,3", "11 W 0 5 0 - - 2,3"),
+        sheet("delete-by-chain", """
+            cores 4
+            create 0 90 0-1
+            create 1 80 1-2
+            create 2 70 2-3
+            create 3 60 3
+            create 4 50 0
+            create 5 40 0
+            wake 0
+            wake 1
+            wake 2
+            wake 3
+            wake 4
+            wake 5
+            delete 3       # slot 4 reaches core 3 by 0,1,2,3
+            delete 1       # slot 5 reaches core 0 only, where slot 4 is held
+            delete 4
+            delete 0
+            """,
+            "12 W 5 0 0 - - 0,1,2,3", "13 D 3 0 3 4 - 4,0,1,2", "14 D 1 0 0 - - 4,0,-,2",
+            "15 D 4 0 0 5 - 5,0,-,2", "16 D 0 0 0 - - 5,-,-,2"),
+        sheet("delete-waiting", """
+            cores 1
+            create 0 90 0
+            create 1 50 0
+            create 2 40 0
+            wake 0
+            wake 1
+            wake 2
+            delete 1       # it waited: nothing moves
+            block 0        # slot 1 would have come before slot 2
+            """,
+            "6 W 2 0 0 - - 0", "7 D 1 0 0 - - 0", "8 B 0 0 0 2 - 2"),
+        sheet("delete-pushed-off", """
+            cores 1
+            create 0 50 0
+            create 1 50 0
+            create 2 90 0
+            wake 0
+            wake 1
+            wake 2
+            delete 0       # it had been pushed off and waited
+            delete 2
+            """,
+            "6 W 2 0 0 2 0 2", "7 D 0 0 0 - - 2", "8 D 2 0 0 1 - 1"),
+        sheet("delete-none-reaches", """
+            cores 2
+            create 0 50 0
+            create 1 50 1
+            create 2 50 0
+            wake 0
+            wake 1
+            wake 2
+            delete 1
+            delete 0
+            delete 2
+            """,
+            "6 W 2 0 0 - - 0,1", "7 D 1 0 0 - - 0,-", "8 D 0 0 0 2 - 2,-", "9 D 2 0 0 - - -,-"),
+        sheet("delete-not-stopped", """
+            cores 2
+            create 0 50 0
+            create 1 40 1
+            wake 0
+            wake 1
+            delete 0
+            """,
+            "5 D 0 0 0 - - -,1"),
+        sheet("delete-by-priority", """
+            cores 1
+            create 0 90 0
+            create 1 10 0
+            create 2 30 0
+            create 3 20 0
+            wake 0
+            wake 1
+            wake 2
+            wake 3
+            delete 0       # slot 1 woke first, slot 2 is the most urgent
+            delete 2
+            """,
+            "9 D 0 0 0 2 - 2", "10 D 2 0 0 3 - 3"),
+        sheet("delete-equals", """
+            cores 1
+            create 0 50 0
+            create 1 50 0
+            create 2 90 0
+            wake 0
+            wake 1
+            wake 2
+            delete 2       # slot 0 was pushed off and keeps its place
+            delete 0
+            """,
+            "6 W 2 0 0 2 0 2", "7 D 2 0 0 0 - 0", "8 D 0 0 0 1 - 1"),
+        sheet("delete-twice", """
+            cores 1
+            create 0 50 0
+            create 1 40 0
+            wake 0
+            wake 1
+            delete 0
+            delete 0
+            delete 1
+            delete 1
+            """,
+            "5 D 0 0 0 1 - 1", "6 D 0 5 0 - - 1", "7 D 1 0 0 - - -", "8 D 1 5 0 - - -"),
+        sheet("delete-not-ready", """
+            cores 2
+            create 0 90 0
+            create 1 80 1
+            create 2 50 0-1
+            create 3 99 0-1
+            create 4 60 0-1
+            wake 0
+            wake 1
+            wake 2
+            delete 3       # it never woke; slot 2 goes on waiting
+            wake 4
+            block 4
+            delete 4       # it woke and blocked
+            block 0
+            """,
+            "8 W 2 0 0 - - 0,1", "9 D 3 0 0 - - 0,1", "10 W 4 0 0 - - 0,1", "11 B 4 0 0 - - 0,1",
+            "12 D 4 0 0 - - 0,1", "13 B 0 0 0 2 - 2,1"),
+    ]
+
+
 # Random days.
 
 
 def random_day(name, seed, core_count, task_count, width, event_count):
-    """Most tasks are ready most of the time, so that cores are short."""
+    """Most tasks are ready most of the time, so that cores are short.
+
+    About half of the tasks are deleted on the way, ready or not, but never so many that
+    all the others would have a core.
+    """
     dice = Dice(seed)
     levels = dice.between(2, 6)
     records = [Record(slot, dice.between(1, levels) * 40, dice.mask(core_count, width))
@@ -681,11 +867,16 @@ def random_day(name, seed, core_count, task_count, width, event_count):
     slots = [record.slot for record in records]
     events, ready = [], set()
     while len(events) < event_count:
-        event = stray_event(dice, ready) if dice.one_in(25) else busy_event(dice, slots, ready)
+        if len(slots) > core_count + 1 and dice.one_in(2 * event_count // task_count):
+            event = Event(DELETE, slots.pop(dice.below(len(slots))))
+        elif dice.one_in(25):
+            event = stray_event(dice, slots, ready)
+        else:
+            event = busy_event(dice, slots, ready)
         events.append(event)
         if event.kind == WAKE and event.slot in slots:
             ready.add(event.slot)
-        if event.kind == BLOCK:
+        if event.kind != WAKE:
             ready.discard(event.slot)
     return day(name, core_count, records, events)
 
@@ -698,13 +889,14 @@ def busy_event(dice, slots, ready):
     return Event(BLOCK, dice.pick(sorted(ready)))
 
 
-def stray_event(dice, ready):
+def stray_event(dice, slots, ready):
     """A call that is likely refused."""
     any_slot = dice.below(256)
+    empty = [slot for slot in range(256) if slot not in slots]
     return dice.pick([
         Event(WAKE, dice.pick(sorted(ready) + [any_slot])),
         Event(BLOCK, any_slot),
-        Event(DELETE, dice.pick(sorted(ready) + [any_slot])),
+        Event(DELETE, dice.pick(empty)),
     ])
 
 
@@ -731,11 +923,12 @@ def all_vectors():
         layout_vectors()
         + refusal_vectors()
         + size_vectors()
-        + [chain_of_32(), chain_in_mixed_order(), ring_of_32()]
+        + [chain_of_32(), chain_of_32_by_delete(), chain_in_mixed_order(), ring_of_32()]
         + order_vectors()
         + wake_vectors()
         + tie_vectors()
         + block_vectors()
+        + delete_vectors()
         + random_vectors()
         + examples()
     )

@@ -1,4 +1,4 @@
-"""Document 01's definitions taken word by word, for small cases only.
+"""Document 01 with request 1 of document 02, taken word by word, for small cases only.
 
 Everything here enumerates: all chains, all seatings, all faults of a file. It
 uses the fields of a dispatcher (core_count, tasks, order, seats) and none of
@@ -101,7 +101,7 @@ def create_refusal(state, slot, priority, mask):
 
 
 def delete_refusal(state, slot):
-    return refusal({3: slot > 127, 5: slot not in state.tasks, 11: slot in state.order})
+    return refusal({3: slot > 127, 5: slot not in state.tasks})
 
 
 def wake_refusal(state, slot):
@@ -116,7 +116,7 @@ def unchanged(state, number):
     return Outcome(number, 0, None, None, list(state.order), list(state.seats))
 
 
-# What wake and block do. `state` is a copy that may be changed.
+# What wake, block and delete do. `state` is a copy that may be changed.
 
 
 def wake(state, slot):
@@ -157,13 +157,23 @@ def block(state, slot):
     return taken(state, seats, chosen(chains[first]), first, None)
 
 
+def delete(state, slot):
+    """Of a ready task what block does; then the slot is empty."""
+    number = delete_refusal(state, slot)
+    if number:
+        return unchanged(state, number)
+    outcome = block(state, slot) if slot in state.order else unchanged(state, 0)
+    del state.tasks[slot]
+    return outcome
+
+
 def taken(state, seats, chain, newcomer, loser):
     """A chain of k cores moves k - 1 tasks."""
     after = after_chain(seats, chain, newcomer)
     return Outcome(0, len(chain) - 1, newcomer, loser, state.order, after)
 
 
-# Sound states and the strong rule.
+# Sound states, who is ready, and the strong rule.
 
 
 def is_sound(state):
@@ -182,6 +192,16 @@ def is_sound(state):
         and all(slot is None or allows(state, slot, core)
                 for core, slot in enumerate(state.seats))
     )
+
+
+def woken(calls):
+    """The slots woken and not since blocked nor deleted by these accepted calls, in wake order."""
+    return [
+        slot for place, (name, slot) in enumerate(calls)
+        if name == "wake"
+        and ("block", slot) not in calls[place:]
+        and ("delete", slot) not in calls[place:]
+    ]
 
 
 def all_seatings(state, core=0, used=()):

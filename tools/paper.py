@@ -1,4 +1,4 @@
-"""The listing of document 01, transcribed."""
+"""The listing of document 01, transcribed; line 12 as request 1 of document 02 has it."""
 
 LISTING_INPUT = """
 03 04 00 32 03 00 00 00 01 28 06 00 00 00 02 1E 01 00 00 00 05 1E 04 00 00 00 08 00
@@ -16,5 +16,5 @@ LISTING_LINES = """\
 9 B 0 0 1 5 - 2,1,5
 10 W 5 9 0 - - 2,1,5
 11 W 0 0 1 0 5 2,0,1
-12 D 5 11 0 - - 2,0,1
+12 D 5 0 0 - - 2,0,1
 """

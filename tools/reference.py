@@ -1,5 +1,5 @@
 #!/usr/bin/env python3
-"""Replay an event file by the rules of document 01, written from that paper alone.
+"""Replay an event file by document 01 with request 1 of document 02, written from these alone.
 
     python3 tools/reference.py < event-file
 
@@ -19,7 +19,7 @@ MOST_EVENTS = 16000
 # One core count, a counted run of records of 6 bytes, a counted run of events of 2.
 LONGEST_FILE = 1 + 1 + 6 * MOST_RECORDS + 2 + 2 * MOST_EVENTS
 
-# The refusal numbers of document 01 that a file can meet.
+# The refusal numbers that a file can meet. 11 is given no more and stays unused.
 DONE = 0
 BAD_CORE_COUNT = 2
 SLOT_TOO_LARGE = 3
@@ -30,7 +30,6 @@ MASK_EMPTY = 7
 MISSING_CORE = 8
 ALREADY_READY = 9
 NOT_READY = 10
-STILL_READY = 11
 ENDS_TOO_EARLY = 12
 SURPLUS_BYTES = 13
 BAD_KIND = 14
@@ -142,10 +141,10 @@ class Dispatcher:
             return refused(SLOT_TOO_LARGE)
         if slot not in self.tasks:
             return refused(SLOT_EMPTY)
-        if self.is_ready(slot):
-            return refused(STILL_READY)
+        # Request 1: a ready task is blocked first, and the report is that of the block.
+        report = self.block(slot) if self.is_ready(slot) else Report(DONE, 0, None, None)
         del self.tasks[slot]
-        return Report(DONE, 0, None, None)
+        return report
 
     def wake(self, slot):
         if slot >= SLOTS:

@@ -1,5 +1,5 @@
 #!/usr/bin/env python3
-"""Hold tools/reference.py to document 01 by brute force over small cases.
+"""Hold tools/reference.py to documents 01 and 02 (request 1) by brute force over small cases.
 
     python3 tools/self_check.py
 
@@ -7,7 +7,7 @@ prints what was checked and how often; exit status 1 on the first difference.
 """
 
 import sys
-from collections import Counter
+from collections import Counter, deque
 from itertools import permutations, product
 
 sys.dont_write_bytecode = True
@@ -16,7 +16,7 @@ import literal
 from dice import Dice
 from paper import LISTING_INPUT, LISTING_LINES
 from reference import (
-    Day, Dispatcher, Event, LayoutFault, Record, Report, Task, fresh, printed, read_day,
+    Day, Dispatcher, Event, LayoutFault, Record, Report, Task, fresh, printed, read_day, report_line,
 )
 from sheet import encode
 
@@ -27,14 +27,20 @@ class Difference(Exception):
     pass
 
 
-def expect(what, got, wanted, context=None):
-    """Every check goes through here."""
+def expect(what, got, wanted, *context):
+    """Every check goes through here; a state is put in words only where there is a difference."""
     if got != wanted:
-        raise Difference(f"{what}\n  got    {got}\n  wanted {wanted}\n  with   {context}")
+        words = [describe(part) if isinstance(part, Dispatcher) else str(part) for part in context]
+        raise Difference(f"{what}\n  got    {got}\n  wanted {wanted}\n  with   {' '.join(words)}")
 
 
 def describe(state):
     return f"cores {state.core_count} tasks {state.tasks} order {state.order} seats {state.seats}"
+
+
+def key_of(state):
+    """The same for equal states of one core count, in whatever order their slots were filled."""
+    return tuple(sorted(state.tasks.items())), tuple(state.order), tuple(state.seats)
 
 
 def copy_of(state):
@@ -43,43 +49,60 @@ def copy_of(state):
     return other
 
 
-# Wake and block against all chains.
+# Wake, block and delete against all chains.
 
 
 def check_call(state, name, slot):
-    """Wake or block on a copy of the state; gives the state afterwards and the report."""
-    after = copy_of(state)
+    """A call on a copy of the state; gives the state afterwards and the report."""
+    after, by_words = copy_of(state), copy_of(state)
     report = getattr(after, name)(slot)
-    wanted = getattr(literal, name)(copy_of(state), slot)
-    context = f"{name} {slot} on {describe(state)}"
-    expect("report", report, Report(*wanted[:4]), context)
-    expect("wake order", after.order, wanted.order, context)
-    expect("seats", after.seats, wanted.seats, context)
-    expect("tasks", after.tasks, state.tasks, context)
-    expect("moves by seats", report.moves, len(literal.moved(state.seats, after.seats)), context)
-    expect("sound afterwards", literal.is_sound(after), True, context)
-    tally(name, report)
+    wanted = getattr(literal, name)(by_words, slot)
+    context = name, slot, "on", state
+    expect("report", report, Report(*wanted[:4]), *context)
+    expect("wake order", after.order, wanted.order, *context)
+    expect("seats", after.seats, wanted.seats, *context)
+    expect("tasks", after.tasks, by_words.tasks, *context)
+    expect("moves by seats", report.moves, len(literal.moved(state.seats, after.seats)), *context)
+    expect("sound afterwards", literal.is_sound(after), True, *context)
+    expect("done", report.answer, 0, *context)
+    tally(name, state, slot, report)
     return after, report
 
 
-def tally(name, report):
-    if report.answer:
-        counts[f"{name} refused"] += 1
-    elif report.stopped is not None:
-        counts[f"{name} that pushes a task off"] += 1
-    elif report.started is None:
-        counts[f"{name} that starts nobody"] += 1
+def tally(name, state, slot, report):
+    if slot not in state.order:
+        what = f"{name} of a task not ready"
+    elif slot in state.seats:
+        what = f"{name} of a running task"
     else:
-        counts[f"{name} that fills an idle core"] += 1
+        what = f"{name} of a waiting task"
+    if report.stopped is not None:
+        counts[f"{what} that pushes a task off"] += 1
+    elif report.started is None:
+        counts[f"{what} that starts nobody"] += 1
+    else:
+        counts[f"{what} that fills an idle core"] += 1
     if report.moves:
-        counts[f"chains of {report.moves + 1} cores"] += 1
+        counts[f"{name} by a chain of {report.moves + 1} cores"] += 1
+
+
+def check_delete_met_what_block_met():
+    """Every kind of case that block met was met by delete too, and the one it has alone."""
+    kinds = [what.removeprefix("block ") for what in counts if what.startswith("block ")]
+    for kind in [*kinds, "of a task not ready that starts nobody"]:
+        expect(f"delete {kind}", counts[f"delete {kind}"] > 0, True)
+
+
+def calls_of(state, slot):
+    """The calls of a used slot that are not refused."""
+    return ("block", "delete") if slot in state.order else ("wake", "delete")
 
 
 def check_reached(state):
     """The quick sets of reached cores, used below, are the ends of all chains."""
     for slot in state.order:
         ends = {chain[-1] for chain in literal.all_chains(state, state.seats, slot)}
-        expect("reached", literal.reached(state, state.seats, slot), ends, describe(state))
+        expect("reached", literal.reached(state, state.seats, slot), ends, state)
         counts["sets of reached cores"] += 1
 
 
@@ -111,7 +134,8 @@ def check_every_sound_state(core_count, priorities):
             for state.seats in literal.all_seatings(state):
                 counts["sound states, all small ones"] += 1
                 for slot in range(len(priorities)):
-                    check_call(state, "block" if slot in order else "wake", slot)
+                    for name in calls_of(state, slot):
+                        check_call(state, name, slot)
 
 
 def random_state(dice, core_count, task_count):
@@ -127,7 +151,7 @@ def random_state(dice, core_count, task_count):
                    if slot not in state.seats and literal.allows(state, slot, core)]
         if fitting and not dice.one_in(6):
             state.seats[core] = dice.pick(fitting)
-    expect("sound", literal.is_sound(state), True, describe(state))
+    expect("sound", literal.is_sound(state), True, state)
     return state
 
 
@@ -146,7 +170,7 @@ def line_state(dice, core_count, task_count):
     state.order = dice.shuffled([*seated, *range(core_count + dice.below(3), task_count)])
     for slot in seated:
         state.seats[line[slot]] = slot
-    expect("sound", literal.is_sound(state), True, describe(state))
+    expect("sound", literal.is_sound(state), True, state)
     return state
 
 
@@ -159,64 +183,83 @@ def check_random_states(dice, rounds):
         counts["sound states, random ones"] += 1
         check_reached(state)
         for slot in state.tasks:
-            check_call(state, "block" if slot in state.order else "wake", slot)
+            for name in calls_of(state, slot):
+                check_call(state, name, slot)
 
 
 # From fresh: the strong rule and the least number of moves.
 
 
 class StrongSeatings:
-    """The seatings that satisfy the strong rule, remembered for each wake order."""
+    """The seatings that satisfy the strong rule, remembered for the ready tasks in wake order."""
 
     def __init__(self):
         self.known = {}
 
     def of(self, state):
-        key = tuple(state.order)
+        key = tuple((slot, state.tasks[slot]) for slot in state.order)
         if key not in self.known:
             seatings = list(literal.all_seatings(state))
             counts["seatings judged by the strong rule"] += len(seatings)
             self.known[key] = [seats for seats in seatings if literal.is_strong(state, seats)]
+            running = {frozenset(seats) - {None} for seats in self.known[key]}
+            expect("same running set in all", len(running), 1, state)
         return self.known[key]
 
 
-def check_demands(before, after, report, strong):
-    """The seating reached is a strong one, and none moves fewer tasks."""
+def check_demands(before, calls, after, report, strong):
+    """The ready tasks are those of the calls, their seating is strong, and none moves fewer."""
     seatings = strong.of(after)
-    context = f"{describe(before)} then {describe(after)}"
-    expect("strong rule", after.seats in seatings, True, context)
-    running = {frozenset(seats) - {None} for seats in seatings}
-    expect("same running set in all", len(running), 1, context)
+    context = before, "then", after
+    expect("woken and not since blocked nor deleted", after.order, literal.woken(calls), *context)
+    expect("strong rule", after.seats in seatings, True, *context)
     least = min(len(literal.moved(before.seats, seats)) for seats in seatings)
-    expect("least moves", report.moves, least, context)
-    expect("moves below core count", report.moves < after.core_count, True, context)
+    expect("least moves", report.moves, least, *context)
+    expect("moves below core count", report.moves < after.core_count, True, *context)
     counts["calls from fresh held to the strong rule and least moves"] += 1
 
 
+def every_next(state, slot, priority):
+    """Each call of the slot that is not refused, the state afterwards and the report."""
+    if slot in state.tasks:
+        for name in calls_of(state, slot):
+            yield name, *check_call(state, name, slot)
+    else:
+        for mask in range(1, 2**state.core_count):
+            yield "create", *check_create(state, slot, priority, mask)
+
+
 def check_all_calls_from_fresh(core_count, priorities):
-    """Every state that any sequence of wakes and blocks gives, and every next call."""
-    for masks in all_mask_choices(core_count, len(priorities)):
-        strong = StrongSeatings()
-        todo = [with_tasks(core_count, priorities, masks)]
-        seen = set()
-        while todo:
-            state = todo.pop()
-            key = (tuple(state.order), tuple(state.seats))
-            if key in seen:
-                continue
-            seen.add(key)
-            for slot in range(len(priorities)):
-                name = "block" if slot in state.order else "wake"
-                after, report = check_call(state, name, slot)
-                check_demands(state, after, report, strong)
-                todo.append(after)
-        counts["states reached from fresh, all small ones"] += len(seen)
+    """Every state that any sequence of calls gives, and every next call.
+
+    Each slot has one priority, and any mask each time that it is created.
+    """
+    strong = StrongSeatings()
+    todo = deque([(fresh(core_count)[1], [])])
+    seen = {key_of(todo[0][0])}
+    while todo:
+        state, calls = todo.popleft()
+        for slot, priority in enumerate(priorities):
+            for name, after, report in every_next(state, slot, priority):
+                now = [*calls, (name, slot)]
+                check_demands(state, now, after, report, strong)
+                if key_of(after) not in seen:
+                    seen.add(key_of(after))
+                    todo.append((after, now))
+    counts["states reached from fresh, all small ones"] += len(seen)
 
 
 def busy_pick(dice, state):
-    """A slot, more often one to wake than one to block, so that cores are short."""
+    """A used slot, more often one to wake than one to block, so that cores are short."""
     asleep = [slot for slot in state.tasks if slot not in state.order]
     return dice.pick(asleep if asleep and not dice.one_in(3) else list(state.tasks))
+
+
+def busy_call(dice, state):
+    """Of a used slot a wake or a block, and now and then a delete."""
+    slot = busy_pick(dice, state)
+    usual, delete = calls_of(state, slot)
+    return (delete if dice.one_in(8) else usual), slot
 
 
 def day_masks(dice, core_count, task_count):
@@ -231,17 +274,25 @@ def day_masks(dice, core_count, task_count):
 
 
 def check_random_days(dice, core_count, task_count, days, calls):
+    """An emptied slot is soon created again, with another priority and mask."""
     for _ in range(days):
         counts["random days from fresh"] += 1
         levels = dice.between(1, 5)
         priorities = [dice.between(1, levels) for _ in range(task_count)]
-        state = with_tasks(core_count, priorities, day_masks(dice, core_count, task_count))
+        masks = day_masks(dice, core_count, task_count)
+        state = with_tasks(core_count, priorities, masks)
         strong = StrongSeatings()
+        done = []
         for _ in range(calls):
-            slot = busy_pick(dice, state)
-            name = "block" if slot in state.order else "wake"
-            after, report = check_call(state, name, slot)
-            check_demands(state, after, report, strong)
+            empty = [slot for slot in range(task_count) if slot not in state.tasks]
+            if empty and dice.one_in(2):
+                name, slot = "create", dice.pick(empty)
+                after, report = check_create(state, slot, dice.between(1, levels), dice.pick(masks))
+            else:
+                name, slot = busy_call(dice, state)
+                after, report = check_call(state, name, slot)
+            done.append((name, slot))
+            check_demands(state, done, after, report, strong)
             state = after
 
 
@@ -252,29 +303,35 @@ def check_refusal_of(state, name, arguments):
     after = copy_of(state)
     report = getattr(after, name)(*arguments)
     number = getattr(literal, name + "_refusal")(state, *arguments)
-    context = f"{name} {arguments} on {describe(state)}"
-    expect("answer", report.answer, number, context)
+    context = name, arguments, "on", state
+    expect("answer", report.answer, number, *context)
     if number:
-        expect("refused report", report, Report(number, 0, None, None), context)
-        expect("refused leaves all", describe(after), describe(state), context)
+        expect("refused report", report, Report(number, 0, None, None), *context)
+        expect("refused leaves all", describe(after), describe(state), *context)
     counts[f"answers of {name}"] += 1
-    return after
+    return after, report
 
 
 def check_create(state, slot, priority, mask):
-    after = check_refusal_of(state, "create", (slot, priority, mask))
+    after, report = check_refusal_of(state, "create", (slot, priority, mask))
     if literal.create_refusal(state, slot, priority, mask) == 0:
         wanted = copy_of(state)
         wanted.tasks[slot] = Task(priority, mask)
-        expect("create fills the slot", describe(after), describe(wanted))
+        expect("create fills the slot", key_of(after), key_of(wanted))
+        expect("report of create", report, Report(0, 0, None, None))
+    return after, report
 
 
 def check_delete(state, slot):
-    after = check_refusal_of(state, "delete", (slot,))
+    """On any number of cores: of a ready task what block does, and then the slot is empty."""
+    after, report = check_refusal_of(state, "delete", (slot,))
     if literal.delete_refusal(state, slot) == 0:
-        wanted = copy_of(state)
+        wanted, of_block = copy_of(state), Report(0, 0, None, None)
+        if slot in state.order:
+            of_block = wanted.block(slot)
         del wanted.tasks[slot]
-        expect("delete empties the slot", describe(after), describe(wanted))
+        expect("delete empties the slot", key_of(after), key_of(wanted))
+        expect("report of delete", report, of_block)
 
 
 def check_refusals(dice):
@@ -381,8 +438,43 @@ def check_paper():
     expect("nothing printed", printed(bytes([1, 0, 0, 0])), "")
 
 
+def check_create_again():
+    """Once deleted and created again, a task isn't ready, and its next wake gives the last place.
+
+    An event file can't say so, since its creates all come first.
+    """
+    _, dispatcher = fresh(1)
+    calls = {"C": dispatcher.create, "W": dispatcher.wake,
+             "B": dispatcher.block, "D": dispatcher.delete}
+    for number, (letter, arguments, line) in enumerate((
+        ("C", (0, 50, 1), "1 C 0 0 0 - - -"),
+        ("C", (1, 50, 1), "2 C 1 0 0 - - -"),
+        ("C", (2, 50, 1), "3 C 2 0 0 - - -"),
+        ("W", (0,), "4 W 0 0 0 0 - 0"),
+        ("W", (1,), "5 W 1 0 0 - - 0"),
+        ("W", (2,), "6 W 2 0 0 - - 0"),
+        ("D", (1,), "7 D 1 0 0 - - 0"),
+        ("C", (1, 50, 1), "8 C 1 0 0 - - 0"),
+        ("B", (1,), "9 B 1 10 0 - - 0"),
+        ("W", (1,), "10 W 1 0 0 - - 0"),
+        ("D", (0,), "11 D 0 0 0 2 - 2"),
+        ("C", (0, 50, 1), "12 C 0 0 0 - - 2"),
+        ("W", (0,), "13 W 0 0 0 - - 2"),
+        ("B", (2,), "14 B 2 0 0 1 - 1"),
+        ("D", (1,), "15 D 1 0 0 0 - 0"),
+        ("D", (1,), "16 D 1 5 0 - - 0"),
+        ("C", (1, 90, 1), "17 C 1 0 0 - - 0"),
+        ("W", (1,), "18 W 1 0 0 1 0 1"),
+    ), start=1):
+        report = calls[letter](*arguments)
+        got = report_line(number, letter, arguments[0], report, dispatcher.seats)
+        expect("a slot used again", got, line)
+        counts["lines of a slot used again"] += 1
+
+
 def check_everything():
     check_paper()
+    check_create_again()
     check_refusals(Dice(1))
     for priorities in ((1, 1, 1), (2, 1, 1), (2, 2, 1), (3, 2, 1)):
         check_every_sound_state(2, priorities)
@@ -394,6 +486,7 @@ def check_everything():
     check_random_states(Dice(2), 8000)
     check_random_days(Dice(3), 4, 6, 900, 30)
     check_random_days(Dice(4), 5, 7, 300, 30)
+    check_delete_met_what_block_met()
     check_all_short_files((0, 1, 4, 33, 0x3E, 0x80, 0x81), 6)
     check_all_short_files((0, 1, 4), 10)
     check_random_files(Dice(5), 10000)
