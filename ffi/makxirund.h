@@ -49,7 +49,7 @@ enum makxirund_number {
     MAKXIRUND_MISSING_CORE = 8, /* the mask names a core at or above the count: create, load */
     MAKXIRUND_ALREADY_READY = 9, /* wake */
     MAKXIRUND_NOT_READY = 10, /* block */
-    MAKXIRUND_STILL_READY = 11, /* delete */
+    /* 11 (still ready) is never given, for delete takes ready tasks too; the number stays reserved */
     MAKXIRUND_FILE_SHORT = 12, /* the file ends too early: file reader */
     MAKXIRUND_BYTES_AFTER = 13, /* bytes after the last event: file reader */
     MAKXIRUND_BAD_KIND = 14, /* event kind not 1 to 3: file reader; not 0 to 3: line writer */
@@ -191,7 +191,12 @@ struct makxirund_report makxirund_fresh(struct makxirund_dispatcher *d, uint8_t 
 struct makxirund_report makxirund_create(
     struct makxirund_dispatcher *d, uint16_t slot, uint8_t priority, uint32_t mask);
 
-/* Empties the slot of a task that is not ready. Refused: 1, 3, 5, 11. */
+/*
+ * Empties the slot, which may be used again at once. If the task is ready, this does first what
+ * makxirund_block does, and reports as it does: moves and started are those of the refill of its core,
+ * and stopped is 255, for the deleted task does not count as stopped. If the task waited or was not
+ * ready, nobody moves or starts. Refused: 1, 3, 5.
+ */
 struct makxirund_report makxirund_delete(struct makxirund_dispatcher *d, uint16_t slot);
 
 /*

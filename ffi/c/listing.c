@@ -106,11 +106,34 @@ static void check_dispatcher(void)
 
     /* each argument arrives whole */
     EXPECT(quiet(makxirund_wake(d, 383), MAKXIRUND_SLOT_ABOVE)); /* 383 is 127 but for the high byte */
-    EXPECT(quiet(makxirund_delete(d, 127), MAKXIRUND_STILL_READY));
     EXPECT(quiet(makxirund_block(d, 127), MAKXIRUND_DONE));
     EXPECT(quiet(makxirund_delete(d, 127), MAKXIRUND_DONE));
     EXPECT(d->tasks[127].priority == 0 && d->tasks[127].mask == 0);
     EXPECT(makxirund_sound(d) == MAKXIRUND_DONE && margins_kept());
+}
+
+/* Slot 7 runs on core 1 and slot 8 on core 0; slot 9 waits, for core 0 alone. */
+static void check_delete(void)
+{
+    const struct makxirund_record list[] = {{7, 9, 2}, {8, 8, 3}, {9, 1, 1}};
+    struct makxirund_dispatcher *d = lend();
+    makxirund_fresh(d, 2);
+    makxirund_load(d, list, COUNT(list));
+    for (size_t i = 0; i < COUNT(list); i++)
+        EXPECT(makxirund_wake(d, list[i].slot).number == MAKXIRUND_DONE);
+    EXPECT(d->seats[0] == 8 && d->seats[1] == 7);
+
+    /* slot 8 shifts to the freed core, so that slot 9 starts */
+    EXPECT(same_report(makxirund_delete(d, 7), MAKXIRUND_DONE, 1, 9, MAKXIRUND_NONE));
+    EXPECT(d->seats[0] == 9 && d->seats[1] == 8);
+    EXPECT(d->order[0] == 8 && d->order[1] == 9 && d->order[2] == MAKXIRUND_NONE);
+    EXPECT(quiet(makxirund_delete(d, 7), MAKXIRUND_SLOT_EMPTY));
+
+    /* nobody waits for the core of slot 8 */
+    EXPECT(quiet(makxirund_delete(d, 8), MAKXIRUND_DONE));
+    EXPECT(quiet(makxirund_block(d, 9), MAKXIRUND_DONE));
+    EXPECT(quiet(makxirund_delete(d, 9), MAKXIRUND_DONE));
+    EXPECT(all_empty(d) && margins_kept());
 }
 
 static void check_load(void)
@@ -172,7 +195,7 @@ static const uint8_t file[] = {0x03, 0x04, 0x00, 0x32, 0x03, 0x00, 0x00, 0x00, 0
 static const char *const listing[] = {"1 C 0 0 0 - - -,-,-\n",  "2 C 1 0 0 - - -,-,-\n",  "3 C 2 0 0 - - -,-,-\n",
                                       "4 C 5 0 0 - - -,-,-\n",  "5 W 0 0 0 0 - 0,-,-\n",  "6 W 1 0 0 1 - 0,1,-\n",
                                       "7 W 2 0 2 2 - 2,0,1\n",  "8 W 5 0 0 - - 2,0,1\n",  "9 B 0 0 1 5 - 2,1,5\n",
-                                      "10 W 5 9 0 - - 2,1,5\n", "11 W 0 0 1 0 5 2,0,1\n", "12 D 5 11 0 - - 2,0,1\n"};
+                                      "10 W 5 9 0 - - 2,1,5\n", "11 W 0 0 1 0 5 2,0,1\n", "12 D 5 0 0 - - 2,0,1\n"};
 
 static struct makxirund_report make_call(struct makxirund_dispatcher *d, struct makxirund_file_event e)
 {
@@ -227,6 +250,7 @@ static void replay_listing(void)
 int main(void)
 {
     check_dispatcher();
+    check_delete();
     check_load();
     check_lines();
     replay_listing();

@@ -27,11 +27,48 @@ const EVENT: usize = 9;
 const LINE: usize = 10;
 const FAULT: usize = 11;
 
+/// The answers that the paper lets each of the kinds give; for record and event 1 is: not found.
+const ANSWERS: [&[u8]; KINDS.len()] = [
+    &[0, 2],
+    &[0, 1, 3, 4, 6, 7, 8],
+    &[0, 1, 3, 5],
+    &[0, 1, 3, 5, 9],
+    &[0, 1, 3, 5, 10],
+    &[0, 1, 3, 4, 6, 7, 8],
+    &[0, 1],
+    &[0, 2, 12, 13, 14, 16],
+    &[0, 1],
+    &[0, 1],
+    &[0, 1, 14, 15],
+    &[0, 15],
+];
+
+/// What accepted blocks and deletes met: where the task stood, or what became of its core.
+const ENDS: [&str; 5] = [
+    "of tasks not ready",
+    "of waiting tasks",
+    "left the core idle",
+    "refilled it at once",
+    "refilled it by shifts",
+];
+const NOT_READY: usize = 0;
+const WAITING: usize = 1;
+const LEFT_IDLE: usize = 2;
+const AT_ONCE: usize = 3;
+const BY_SHIFTS: usize = 4;
+
+/// Where the ends of each kind begin: a block of a task that is not ready is refused.
+const ENDING: [(usize, usize); 2] = [(BLOCK, WAITING), (DELETE, NOT_READY)];
+/// Each of these ends must come up at least once in so many calls.
+const OFTEN: u64 = 500;
+
 /// What a run has met.
 #[derive(Default)]
 pub struct Coverage {
     /// Calls by kind and answer; a record or event that is not found counts as answer 1.
     answers: [[u64; 17]; KINDS.len()],
+    /// Accepted blocks and deletes by end.
+    ends: [[u64; ENDS.len()]; KINDS.len()],
     /// Calls on dispatchers of 1 to 32 cores, and on those with another count.
     by_cores: [u64; CORES],
     other_cores: u64,
@@ -45,9 +82,6 @@ pub struct Coverage {
     waits: u64,
     to_idle: u64,
     pushed_off: u64,
-    refilled: u64,
-    left_idle: u64,
-    waiting_blocked: u64,
     by_moves: [u64; CORES],
     ties: u64,
     most_ties: u64,
@@ -64,26 +98,24 @@ impl Coverage {
         self.answers[CREATE..=LOAD].iter().flatten().sum()
     }
 
-    /// The answers that can be given and never were.
-    pub fn unmet(&self) -> Vec<(&'static str, usize)> {
-        const MET: [(usize, &[usize]); 9] = [
-            (FRESH, &[0, 2]),
-            (CREATE, &[0, 1, 3, 4, 6, 7, 8]),
-            (DELETE, &[0, 1, 3, 5, 11]),
-            (WAKE, &[0, 1, 3, 5, 9]),
-            (BLOCK, &[0, 1, 3, 5, 10]),
-            (LOAD, &[0, 1, 3, 4, 6, 7, 8]),
-            (READ, &[0, 2, 12, 13, 14, 16]),
-            (LINE, &[0, 1, 14, 15]),
-            (FAULT, &[0, 15]),
-        ];
-        let every = MET
-            .iter()
-            .flat_map(|&(kind, numbers)| numbers.iter().map(move |&number| (kind, number)));
-        every
-            .filter(|&(kind, number)| self.answers[kind][number] == 0)
-            .map(|(kind, number)| (KINDS[kind], number))
-            .collect()
+    /// The answers that can be given and never were, and the ends that came up too seldom.
+    pub fn unmet(&self) -> Vec<String> {
+        let mut unmet = Vec::new();
+        for (kind, numbers) in ANSWERS.iter().enumerate() {
+            for &number in numbers.iter() {
+                if self.answers[kind][usize::from(number)] == 0 {
+                    unmet.push(format!("{}: answer {number}", KINDS[kind]));
+                }
+            }
+        }
+        for (kind, first) in ENDING {
+            for end in first..ENDS.len() {
+                if self.ends[kind][end] * OFTEN < self.calls() {
+                    unmet.push(format!("{}: {}", KINDS[kind], ENDS[end]));
+                }
+            }
+        }
+        unmet
     }
 
     /// The longest chain that a call took, in cores.
@@ -134,11 +166,14 @@ impl fmt::Display for Coverage {
             "accepted wakes: {} waited, {} to an idle core, {} pushed somebody off",
             self.waits, self.to_idle, self.pushed_off
         )?;
-        writeln!(
-            f,
-            "accepted blocks: {} of waiting tasks, {} refilled, {} left the core idle",
-            self.waiting_blocked, self.refilled, self.left_idle
-        )?;
+        for (kind, first) in ENDING {
+            write!(f, "accepted {}s:", KINDS[kind])?;
+            for end in first..ENDS.len() {
+                let mark = if end == first { "" } else { "," };
+                write!(f, "{mark} {} {}", self.ends[kind][end], ENDS[end])?;
+            }
+            writeln!(f)?;
+        }
         writeln!(
             f,
             "longest chain {} cores, greatest moves {}; starts with shifts and several shortest chains: {} (at most {} chains)",
@@ -283,7 +318,7 @@ impl Run {
             let eager = if ready < target { 70 } else { 25 };
             let call = match self.random.below(100) {
                 0..=2 => Call::Create(self.record(masks, priorities, cores)),
-                3..=5 => Call::Delete(self.slot_for(&pair.paper, Wanted::Asleep)),
+                3..=5 => Call::Delete(self.slot_to_delete(&pair.paper)),
                 6 => Call::Load(self.boot_list(&pair.paper, masks, priorities)),
                 dice if dice < 7 + eager => Call::Wake(self.slot_to_wake(&pair.paper)),
                 _ => Call::Block(self.slot_to_block(&pair.paper)),
@@ -320,8 +355,8 @@ impl Run {
             for _ in 0..2 {
                 let call = match self.random.below(20) {
                     0 => Call::Create(self.record(masks, priorities, cores)),
-                    1 => Call::Delete(self.slot_for(&pair.paper, Wanted::Asleep)),
-                    2..=10 => Call::Wake(self.slot_to_wake(&pair.paper)),
+                    1..=3 => Call::Delete(self.slot_to_delete(&pair.paper)),
+                    4..=11 => Call::Wake(self.slot_to_wake(&pair.paper)),
                     _ => Call::Block(self.slot_to_block(&pair.paper)),
                 };
                 self.apply(&mut pair, call);
@@ -361,7 +396,7 @@ impl Run {
             Call::Wake(self.slot_to_wake(&pair.paper)),
             Call::Block(self.slot_to_block(&pair.paper)),
             Call::Create(self.record(masks, priorities, cores)),
-            Call::Delete(self.slot_for(&pair.paper, Wanted::Asleep)),
+            Call::Delete(self.slot_to_delete(&pair.paper)),
             Call::Load(self.boot_list(&pair.paper, masks, priorities)),
         ];
         for call in calls {
@@ -425,7 +460,8 @@ impl Run {
                 (LOAD, got, paper::load(&mut pair.paper, records))
             }
         };
-        if got != expected || !pair.same() {
+        let number = expected.report.number;
+        if got != expected || !pair.same() || !ANSWERS[kind].contains(&number) {
             panic!(
                 "{}\ncall {call:?}\nlibrary {got:?}{}\npaper {expected:?}{}\nguards {:?} {:?}",
                 self.told(&before),
@@ -436,7 +472,6 @@ impl Run {
             );
         }
 
-        let number = expected.report.number;
         if number != 0 {
             assert!(pair.paper == before && expected.report == Report::plain(number));
         }
@@ -448,7 +483,9 @@ impl Run {
         }
         match call {
             Call::Wake(slot) if number == 0 => self.saw_wake(&before, slot, expected.report),
-            Call::Block(slot) if number == 0 => self.saw_block(&before, slot, expected.report),
+            Call::Block(slot) | Call::Delete(slot) if number == 0 => {
+                self.saw_end(kind, &before, slot, expected.report);
+            }
             Call::Load(records) if number == 0 => {
                 self.seen.longest_load = self.seen.longest_load.max(records.len());
             }
@@ -471,19 +508,23 @@ impl Run {
         self.saw_chain(before, slot, goal, report);
     }
 
-    fn saw_block(&mut self, before: &Dispatcher, slot: u16, report: Report) {
-        let Some(core) = before.seats.iter().position(|&sitter| sitter == slot) else {
-            self.seen.waiting_blocked += 1;
-            return;
+    fn saw_end(&mut self, kind: usize, before: &Dispatcher, slot: u16, report: Report) {
+        let end = match before.seats.iter().position(|&sitter| sitter == slot) {
+            None if before.order.contains(&slot) => WAITING,
+            None => NOT_READY,
+            Some(_) if report.started == NONE => LEFT_IDLE,
+            Some(core) => {
+                let mut freed = before.clone();
+                freed.seats[core] = NONE;
+                self.saw_chain(&freed, report.started, 1 << core, report);
+                if report.moves == 0 {
+                    AT_ONCE
+                } else {
+                    BY_SHIFTS
+                }
+            }
         };
-        if report.started == NONE {
-            self.seen.left_idle += 1;
-            return;
-        }
-        self.seen.refilled += 1;
-        let mut freed = before.clone();
-        freed.seats[core] = NONE;
-        self.saw_chain(&freed, report.started, 1 << core, report);
+        self.seen.ends[kind][end] += 1;
     }
 
     fn saw_chain(&mut self, before: &Dispatcher, starter: u16, goal: u32, report: Report) {
@@ -778,6 +819,14 @@ impl Run {
         let wanted = self
             .random
             .pick(&[Running, Running, Running, LastRunning, Waiting, Any]);
+        self.slot_for(d, wanted)
+    }
+
+    fn slot_to_delete(&mut self, d: &Dispatcher) -> u16 {
+        use Wanted::{Any, Asleep, LastRunning, Running, Waiting};
+        let wanted = self
+            .random
+            .pick(&[Running, Running, LastRunning, Waiting, Asleep, Any]);
         self.slot_for(d, wanted)
     }
 

@@ -26,7 +26,7 @@ pub mod answer {
     pub const MISSING_CORE: u8 = 8;
     pub const ALREADY_READY: u8 = 9;
     pub const NOT_READY: u8 = 10;
-    pub const STILL_READY: u8 = 11;
+    // 11 is never given, and its number stays unused.
     pub const FILE_SHORT: u8 = 12;
     pub const FILE_LONG: u8 = 13;
     pub const EVENT_KIND: u8 = 14;

@@ -39,7 +39,7 @@ impl Dispatcher {
         unsafe { raw::makxirund_create(self, slot, priority, mask) }
     }
 
-    /// Empties the slot of a task that is not ready.
+    /// Empties the slot; a ready task is blocked first, and the report is that of the block.
     #[inline]
     pub fn delete(&mut self, slot: u16) -> Report {
         unsafe { raw::makxirund_delete(self, slot) }

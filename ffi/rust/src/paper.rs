@@ -188,7 +188,7 @@ pub fn load(d: &mut Dispatcher, records: &[TaskRecord]) -> LoadReport {
     answered(answer::DONE, 0)
 }
 
-/// Empties the slot of a task that is not ready.
+/// Empties the slot; a ready task is blocked first, and the report is that of the block.
 pub fn delete(d: &mut Dispatcher, slot: u16) -> Report {
     let Some(survey) = &survey(d) else {
         return Report::plain(answer::UNSOUND);
@@ -196,11 +196,12 @@ pub fn delete(d: &mut Dispatcher, slot: u16) -> Report {
     if let Err(number) = used_task(d, slot) {
         return Report::plain(number);
     }
-    if survey.places[usize::from(slot)] != NO_PLACE {
-        return Report::plain(answer::STILL_READY);
-    }
+    let report = match survey.places[usize::from(slot)] {
+        NO_PLACE => Report::plain(answer::DONE),
+        place => leave(d, survey, slot, place),
+    };
     d.tasks[usize::from(slot)] = Task::EMPTY;
-    Report::plain(answer::DONE)
+    report
 }
 
 /// Makes a task ready and seats it if the rule lets it start.
@@ -313,11 +314,14 @@ pub fn block(d: &mut Dispatcher, slot: u16) -> Report {
     if let Err(number) = used_task(d, slot) {
         return Report::plain(number);
     }
-    let place = survey.places[usize::from(slot)];
-    if place == NO_PLACE {
-        return Report::plain(answer::NOT_READY);
+    match survey.places[usize::from(slot)] {
+        NO_PLACE => Report::plain(answer::NOT_READY),
+        place => leave(d, survey, slot, place),
     }
+}
 
+/// Takes a ready task from its place in the order and from its core, and refills the core.
+fn leave(d: &mut Dispatcher, survey: &Survey, slot: u16, place: u8) -> Report {
     let (place, ready) = (usize::from(place), usize::from(survey.ready));
     d.order.copy_within(place + 1..ready, place);
     d.order[ready - 1] = NONE;

@@ -28,8 +28,24 @@ const LISTING: &str = "\
 9 B 0 0 1 5 - 2,1,5
 10 W 5 9 0 - - 2,1,5
 11 W 0 0 1 0 5 2,0,1
-12 D 5 11 0 - - 2,0,1
+12 D 5 0 0 - - 2,0,1
 ";
+
+/// The listing with a delete of slot 0 where line 9 blocks it: it reports as the block, line 11
+/// finds the slot empty, and on line 12 nobody waits for the core of slot 5.
+fn early_delete() -> ([u8; 44], String) {
+    let mut file = FILE;
+    assert_eq!(file[36..38], [2, 0]);
+    file[36] = 3;
+    let changed = "\
+9 D 0 0 1 5 - 2,1,5
+10 W 5 9 0 - - 2,1,5
+11 W 0 5 0 - - 2,1,5
+12 D 5 0 0 - - 2,1,-
+";
+    let kept = LISTING.split_inclusive('\n').take(8);
+    (file, kept.chain([changed]).collect())
+}
 
 /// What the project's small program prints, by the library alone.
 fn replayed(file: &[u8]) -> String {
@@ -83,6 +99,8 @@ fn replayed(file: &[u8]) -> String {
 #[test]
 fn the_listing_comes_out_byte_for_byte() {
     assert_eq!(replayed(&FILE), LISTING);
+    let (file, lines) = early_delete();
+    assert_eq!(replayed(&file), lines);
 }
 
 #[test]
@@ -97,6 +115,8 @@ fn replay_prints_the_listing_too() {
         String::from_utf8(child.wait_with_output().unwrap().stdout).unwrap()
     };
     assert_eq!(run(&FILE), LISTING);
+    let (file, lines) = early_delete();
+    assert_eq!(run(&file), lines);
     assert_eq!(run(&[1, 0, 0, 0]), "");
     assert_eq!(run(&[]), "refused 12 at 0\n");
     assert_eq!(run(&FILE[..43]), "refused 12 at 43\n");

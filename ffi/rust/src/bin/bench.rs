@@ -1,9 +1,10 @@
 //! One call over and over on copies of prepared dispatchers, to be run under callgrind:
 //! `bench SIDE CALL CORES READY CHAIN REPEAT`.
 //!
-//! SIDE is `library`, `rust` or `none` (all but the call), CALL is `wake` or `block`, CHAIN is
-//! `typical` or `worst`. READY counts the ready tasks together with the one that the call names.
-//! Instructions per call are the difference to `none`, divided by REPEAT.
+//! SIDE is `library`, `rust` or `none` (all but the call), CALL is `wake`, `block` or `delete`,
+//! CHAIN is `typical` or `worst`, or `asleep` for a delete of a task that is not ready. READY counts
+//! the ready tasks together with the one that the call names. Instructions per call are the
+//! difference to `none`, divided by REPEAT.
 
 use std::hint::black_box;
 use std::{env, process};
@@ -26,6 +27,11 @@ fn library_block(d: &mut Dispatcher, slot: u16) -> Report {
 }
 
 #[inline(never)]
+fn library_delete(d: &mut Dispatcher, slot: u16) -> Report {
+    d.delete(slot)
+}
+
+#[inline(never)]
 fn rust_wake(d: &mut Dispatcher, slot: u16) -> Report {
     paper::wake(d, slot)
 }
@@ -33,6 +39,11 @@ fn rust_wake(d: &mut Dispatcher, slot: u16) -> Report {
 #[inline(never)]
 fn rust_block(d: &mut Dispatcher, slot: u16) -> Report {
     paper::block(d, slot)
+}
+
+#[inline(never)]
+fn rust_delete(d: &mut Dispatcher, slot: u16) -> Report {
+    paper::delete(d, slot)
 }
 
 #[inline(never)]
@@ -59,16 +70,20 @@ fn main() {
     let paper_call: InPlace = match call {
         "wake" => rust_wake,
         "block" => rust_block,
+        "delete" => rust_delete,
         _ => usage(),
     };
     let measured: InPlace = match (side, call) {
         ("library", "wake") => library_wake,
         ("library", "block") => library_block,
+        ("library", "delete") => library_delete,
         ("rust", _) => paper_call,
         ("none", _) => no_call,
         _ => usage(),
     };
+    // A ready task is deleted in the states in which it is blocked: the two stand side by side.
     let prepared = match (chain, call) {
+        ("asleep", "delete") => asleep(cores, ready),
         ("worst", "wake") => vec![worst_wake(cores, ready)],
         ("worst", _) => vec![worst_block(cores, ready)],
         ("typical", _) => typical(call == "wake", cores, ready),
@@ -247,6 +262,18 @@ fn typical_one(
     fallback.expect("800 tries give a call with at most two shifts")
 }
 
+/// Busy boards with one more task, which is not ready.
+fn asleep(cores: usize, ready: usize) -> Vec<Prepared> {
+    let mut random = Random::new((cores * 1000 + ready) as u64);
+    (0..16)
+        .map(|_| {
+            let mut board = busy(&mut random, cores, ready - 1);
+            let slot = board.create(9, 1);
+            Prepared { d: board.d, slot }
+        })
+        .collect()
+}
+
 /// Tasks on two to four neighbouring cores with eight priorities, after some blocks and wakes. With
 /// as many ready tasks as cores every core is busy, for each core is in the mask of a task of its own.
 fn busy(random: &mut Random, cores: usize, ready: usize) -> Board {
@@ -282,6 +309,8 @@ fn number(word: &str) -> usize {
 }
 
 fn usage() -> ! {
-    eprintln!("usage: bench library|rust|none wake|block CORES READY typical|worst REPEAT");
+    eprintln!(
+        "usage: bench library|rust|none wake|block|delete CORES READY typical|worst|asleep REPEAT"
+    );
     process::exit(2)
 }

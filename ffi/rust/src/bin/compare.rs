@@ -21,7 +21,7 @@ fn main() {
     print!("{coverage}");
     let unmet = coverage.unmet();
     if !unmet.is_empty() {
-        println!("answers that never came up: {unmet:?}");
+        println!("never or too seldom met: {unmet:?}");
         process::exit(1);
     }
 }

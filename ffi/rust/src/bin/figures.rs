@@ -28,6 +28,14 @@ fn main() {
             }
         }
     }
+    // A delete of a ready task is a block and a little more: the ends of the ranges tell how much.
+    for chain in ["typical", "worst", "asleep"] {
+        for cores in [4, 32] {
+            for ready in [16, 128] {
+                figures.row("delete", chain, cores, ready);
+            }
+        }
+    }
     fs::remove_dir_all(&folder).expect("the temporary folder can be removed");
 }
 

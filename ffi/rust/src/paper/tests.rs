@@ -142,6 +142,16 @@ fn oracle_block(d: &mut Dispatcher, slot: u16) -> Report {
     Report::plain(0)
 }
 
+fn oracle_delete(d: &mut Dispatcher, slot: u16) -> Report {
+    let report = if order(d).contains(&slot) {
+        oracle_block(d, slot)
+    } else {
+        Report::plain(0)
+    };
+    d.tasks[usize::from(slot)] = Task::EMPTY;
+    report
+}
+
 /// (a) to (e), one sentence after the other.
 fn oracle_sound(d: &Dispatcher) -> bool {
     let cores = u32::from(d.cores);
@@ -229,6 +239,78 @@ fn wake_and_block_follow_the_listed_chains() {
 }
 
 #[test]
+fn delete_blocks_a_ready_task_and_empties_its_slot() {
+    let mut random = Random::new(5);
+    let (mut not_ready, mut waiting, mut left_idle, mut at_once, mut by_chain) = (0, 0, 0, 0, 0);
+    for _ in 0..30_000 {
+        let cores = random.between(1, 5);
+        let d = random_sound(&mut random, cores);
+        for slot in 0..SLOTS as u16 {
+            let ran = d.seats.contains(&slot);
+            if task(&d, slot).is_empty() || !ran && random.chance(7, 8) {
+                continue;
+            }
+            let (mut got, mut expected) = (d.clone(), d.clone());
+            let report = delete(&mut got, slot);
+            let wanted = oracle_delete(&mut expected, slot);
+            assert_eq!(report, wanted, "slot {slot} of {d:?}");
+            assert_eq!(got, expected, "slot {slot} of {d:?}");
+            assert_eq!(report.stopped, NONE);
+            assert!(oracle_sound(&got) && task(&got, slot).is_empty());
+            let met = match report {
+                _ if !order(&d).contains(&slot) => &mut not_ready,
+                _ if !ran => &mut waiting,
+                Report { started: NONE, .. } => &mut left_idle,
+                Report { moves: 0, .. } => &mut at_once,
+                _ => &mut by_chain,
+            };
+            *met += 1;
+        }
+    }
+    let met = [not_ready, waiting, left_idle, at_once, by_chain];
+    println!("not ready, waiting, core left idle, refilled at once, by a chain: {met:?}");
+    assert!(met.iter().all(|&deletes| deletes > 5_000));
+}
+
+/// Worked out by hand from the board after line 8 of the listing, with one more task that sleeps.
+#[test]
+fn delete_on_the_board_of_the_listing() {
+    let mut d = Dispatcher::empty(3);
+    let tasks = [(0, 50, 3), (1, 40, 6), (2, 30, 1), (5, 30, 4), (9, 60, 7)];
+    for (slot, priority, mask) in tasks {
+        assert_eq!(create(&mut d, slot, priority, mask), Report::plain(0));
+    }
+    for slot in [0, 1, 2, 5] {
+        assert_eq!(wake(&mut d, slot).number, 0);
+    }
+    assert_eq!(d.seats[..3], [2, 0, 1]);
+
+    let check = |slot: u16, (moves, started), order: &[u16], seats: [u16; 3]| {
+        let (mut got, mut expected) = (d.clone(), d.clone());
+        let report = Report {
+            number: 0,
+            moves,
+            started,
+            stopped: NONE,
+        };
+        assert_eq!(delete(&mut got, slot), report);
+        expected.tasks[usize::from(slot)] = Task::EMPTY;
+        set_order(&mut expected, order);
+        expected.seats[..3].copy_from_slice(&seats);
+        assert_eq!(got, expected);
+        got
+    };
+    check(0, (1, 5), &[1, 2, 5], [2, 1, 5]);
+    check(1, (0, 5), &[0, 2, 5], [2, 0, 5]);
+    check(2, (2, 5), &[0, 1, 5], [0, 1, 5]);
+    check(9, (0, NONE), &[0, 1, 2, 5], [2, 0, 1]);
+    let mut none_waits = check(5, (0, NONE), &[0, 1, 2], [2, 0, 1]);
+    assert_eq!(delete(&mut none_waits, 2), Report::plain(0));
+    assert_eq!(none_waits.seats[..3], [NONE, 0, 1]);
+    assert_eq!(order(&none_waits), [0, 1]);
+}
+
+#[test]
 fn soundness_is_the_five_sentences() {
     let mut random = Random::new(2);
     let (mut good, mut bad) = (0, 0);
@@ -274,20 +356,23 @@ fn the_strong_rule_holds_from_fresh() {
         let mut d = Dispatcher::empty(0);
         assert_eq!(fresh(&mut d, cores as u8), Report::plain(0));
         let (masks, priorities) = (Masks::draw(&mut random), Priorities::draw(&mut random));
+        let fill = |d: &mut Dispatcher, slot, random: &mut Random| {
+            let (priority, mask) = (priorities.priority(random), masks.mask(random, cores));
+            assert_eq!(create(d, slot, priority, mask).number, 0);
+        };
         for slot in 0..SLOTS as u16 {
-            let (priority, mask) = (
-                priorities.priority(&mut random),
-                masks.mask(&mut random, cores),
-            );
-            assert_eq!(create(&mut d, slot, priority, mask).number, 0);
+            fill(&mut d, slot, &mut random);
         }
         let lively = random.between(1, 9);
         for _ in 0..300 {
             let slot = random.below(SLOTS) as u16;
             if random.chance(lively, 10) {
                 wake(&mut d, slot);
-            } else {
+            } else if random.chance(1, 2) {
                 block(&mut d, slot);
+            } else {
+                assert_eq!(delete(&mut d, slot).number, 0);
+                fill(&mut d, slot, &mut random);
             }
             assert_eq!(running(&d), strong_set(&d));
         }
@@ -317,9 +402,10 @@ fn refusals_take_the_lowest_number() {
     assert_eq!(block(&mut d, 127), Report::plain(10));
     assert_eq!(wake(&mut d, 127).started, 127);
     assert_eq!(wake(&mut d, 127), Report::plain(9));
-    assert_eq!(delete(&mut d, 127), Report::plain(11));
     assert_eq!(block(&mut d, 127), Report::plain(0));
+    assert_eq!(wake(&mut d, 127).started, 127);
     assert_eq!(delete(&mut d, 127), Report::plain(0));
+    assert_eq!(d, Dispatcher::empty(1));
     assert_eq!(delete(&mut d, 127), Report::plain(5));
     assert_eq!(delete(&mut d, 65_535), Report::plain(3));
 }
