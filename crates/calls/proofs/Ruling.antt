@@ -28,7 +28,7 @@ use Rattle.tasks.specs.Create.{Creates}
 use Rattle.boot.specs.Load.{AllCreated, AllOrNone}
 use Rattle.boot.proofs.Keeping.{loaded-off}
 use Rattle.readiness.proofs.Keeping.{Ruled, promised-keeps, Rule, promised-rule, some-core, wake-rule, block-rule, block-ready}
-use Rattle.deletion.specs.Delete.{Ends, Deletes}
+use Rattle.deletion.specs.Delete.{BlocksThenEmpties, Deletes}
 use Rattle.deletion.proofs.Same.{ready-or-not}
 use Rattle.deletion.proofs.Keeping.{block-done, ended-off}
 use Rattle.calls.specs.Call.{Call, create, delete, load, wake, block, Does}
@@ -120,7 +120,7 @@ create-ready {d} {slot} S C t = promised-keeps (λ x. Ready x t ↔ Ready d t) C
 
 -- a ready task is blocked, and then its slot, not ready any more, is emptied: what holds of the block holds of the delete
 module _ {d : Dispatcher} {slot : ℕ} {r : Outcome} (L : Shaped d) (S : Sound d) (D : Deletes d slot r) where
-  ended-rule : numberOf (r .report .answer) ≡ 0 → KeepsIn d (seatAt d) → Ends d slot r → Rule d (r .dispatcher) (r .report .moves)
+  ended-rule : numberOf (r .report .answer) ≡ 0 → KeepsIn d (seatAt d) → BlocksThenEmpties d slot r → Rule d (r .dispatcher) (r .report .moves)
   ended-rule z K E =
       let k = block-rule L S K (E .blocks) in
       rw (E .emptied, E .reported) (slot-rule (E .block .dispatcher) slot noTask (ended-off E z L S) d (k .0, k .1 (block-done E z)))
@@ -132,7 +132,7 @@ module _ {d : Dispatcher} {slot : ℕ} {r : Outcome} (L : Shaped d) (S : Sound d
       go z (inl on) = ended-rule z K (D .done z .ready on)
       go z (inr off) = writes-rule d slot noTask off S K (D .done z .not-ready off)
 
-  ended-ready : numberOf (r .report .answer) ≡ 0 → Ends d slot r → (t : ℕ) → Ready (r .dispatcher) t ↔ (Ready d t × (t ≢ slot))
+  ended-ready : numberOf (r .report .answer) ≡ 0 → BlocksThenEmpties d slot r → (t : ℕ) → Ready (r .dispatcher) t ↔ (Ready d t × (t ≢ slot))
   ended-ready z E t =
       let e = slot-ready (E .block .dispatcher) slot noTask (ended-off E z L S) t in
       let k = block-ready L S (E .blocks) (block-done E z) t in

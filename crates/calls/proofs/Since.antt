@@ -28,26 +28,26 @@ none-since t W = go (W .later) (W .split)
     go (a ∷ later) e = let n = ap length e in omega arith
 
 -- the call blocked t or deleted it
-abbrev Ended : Step → ℕ → Type 0
-Ended s t = DidBlock s t ⊎ DidDelete s t
+abbrev DidEnd : Step → ℕ → Type 0
+DidEnd s t = DidBlock s t ⊎ DidDelete s t
 
 -- the latest call woke t; or t was woken before it, and it did not end t
 module _ (s : Step) (l : List Step) (t : ℕ) where
-  since-split : WokenSince (s ∷ l) t → Woke s t ⊎ (WokenSince l t × (Ended s t → ⊥))
+  since-split : WokenSince (s ∷ l) t → Woke s t ⊎ (WokenSince l t × (DidEnd s t → ⊥))
   since-split W = go (W .later) (W .split) (W .not-since)
     where
-      go : (later : List Step) → s ∷ l ≡ later ++ (W .waking ∷ W .earlier) → ((a : Step) → Among a later → Ended a t → ⊥) → Woke s t ⊎ (WokenSince l t × (Ended s t → ⊥))
+      go : (later : List Step) → s ∷ l ≡ later ++ (W .waking ∷ W .earlier) → ((a : Step) → Among a later → DidEnd a t → ⊥) → Woke s t ⊎ (WokenSince l t × (DidEnd s t → ⊥))
       go [] e free = let same : W .waking ≡ s = cc e in inl (subst (λ (a : Step). Woke a t) same (W .woken))
       go (a ∷ later) e free =
           let rest : l ≡ later ++ (W .waking ∷ W .earlier) = cc e in
           let same : s ≡ a = cc e in
           inr (record { later = later; waking = W .waking; earlier = W .earlier; split = rest; woken = W .woken; not-since = λ b i. free b (inr i) }, free s (inl same))
 
-  since-join : Woke s t ⊎ (WokenSince l t × (Ended s t → ⊥)) → WokenSince (s ∷ l) t
+  since-join : Woke s t ⊎ (WokenSince l t × (DidEnd s t → ⊥)) → WokenSince (s ∷ l) t
   since-join (inl w) = record { later = []; waking = s; earlier = l; split = refl; woken = w; not-since = λ a i. absurd i }
   since-join (inr (W, free)) = record { later = s ∷ W .later; waking = W .waking; earlier = W .earlier; split = ap (λ (x : List Step). s ∷ x) (W .split); woken = W .woken; not-since = none }
     where
-      none : (a : Step) → Among a (s ∷ W .later) → Ended a t → ⊥
+      none : (a : Step) → Among a (s ∷ W .later) → DidEnd a t → ⊥
       none a (inl e) = rw e free
       none a (inr i) = W .not-since a i
 
@@ -73,21 +73,21 @@ step c r = record { call = c; outcome = r }
 
 -- ready after the call s on d are the slot that it woke, and those who were ready and that it did not end
 abbrev ReadyAfter : Step → Dispatcher → ℕ → Type 0
-ReadyAfter s d t = Ready (s .outcome .dispatcher) t ↔ (Woke s t ⊎ (Ready d t × (Ended s t → ⊥)))
+ReadyAfter s d t = Ready (s .outcome .dispatcher) t ↔ (Woke s t ⊎ (Ready d t × (DidEnd s t → ⊥)))
 
-ended-done : (s : Step) {t : ℕ} → Ended s t → numberOf (s .outcome .report .answer) ≡ 0
+ended-done : (s : Step) {t : ℕ} → DidEnd s t → numberOf (s .outcome .report .answer) ≡ 0
 ended-done s (inl b) = b .1
 ended-done s (inr b) = b .1
 
 -- only a block and a delete end a task
-not-ended : {t : ℕ} (s : Step) → kind (s .call) < 3 → Ended s t → ⊥
+not-ended : {t : ℕ} (s : Step) → kind (s .call) < 3 → DidEnd s t → ⊥
 not-ended s aside (inl b) = let k = ap kind (b .0) in omega arith
 not-ended s aside (inr b) = let k = ap kind (b .0) in omega arith
 
 refused-after : {rs : List Refusal} {d : Dispatcher} {P : Outcome → Type 0} (s : Step) → Promised rs d P (s .outcome) → numberOf (s .outcome .report .answer) ≢ 0 → (t : ℕ) → ReadyAfter s d t
 refused-after {d = d} s h z t = rw (h .kept z) ((λ r. inr (r, λ b. z (ended-done s b))), back)
   where
-    back : Woke s t ⊎ (Ready d t × (Ended s t → ⊥)) → Ready d t
+    back : Woke s t ⊎ (Ready d t × (DidEnd s t → ⊥)) → Ready d t
     back (inl w) = absurd (z (w .1))
     back (inr r) = r .0
 
@@ -95,19 +95,19 @@ refused-after {d = d} s h z t = rw (h .kept z) ((λ r. inr (r, λ b. z (ended-do
 aside-after : {d : Dispatcher} (s : Step) → kind (s .call) < 2 → (t : ℕ) → Ready (s .outcome .dispatcher) t ↔ Ready d t → ReadyAfter s d t
 aside-after {d} s aside t same = ((λ r. inr (same .0 r, not-ended s (omega arith))), back)
   where
-    back : Woke s t ⊎ (Ready d t × (Ended s t → ⊥)) → Ready (s .outcome .dispatcher) t
+    back : Woke s t ⊎ (Ready d t × (DidEnd s t → ⊥)) → Ready (s .outcome .dispatcher) t
     back (inl w) = let k = ap kind (w .0) in absurd (omega arith)
     back (inr r) = same .1 (r .0)
 
 -- a call that ends the task of its slot, and so wakes none
-ends-after : {d : Dispatcher} {t : ℕ} (s : Step) → 2 < kind (s .call) → (slotOf (s .call) ≡ t → Ended s t) → Ready (s .outcome .dispatcher) t ↔ (Ready d t × (t ≢ slotOf (s .call))) → ReadyAfter s d t
+ends-after : {d : Dispatcher} {t : ℕ} (s : Step) → 2 < kind (s .call) → (slotOf (s .call) ≡ t → DidEnd s t) → Ready (s .outcome .dispatcher) t ↔ (Ready d t × (t ≢ slotOf (s .call))) → ReadyAfter s d t
 ends-after {d} {t} s ends ended h = ((λ q. let k = h .0 q in inr (k .0, λ b. k .1 (sym (slot b)))), λ q. h .1 (back q))
   where
-    slot : Ended s t → slotOf (s .call) ≡ t
+    slot : DidEnd s t → slotOf (s .call) ≡ t
     slot (inl b) = ap slotOf (b .0)
     slot (inr b) = ap slotOf (b .0)
 
-    back : Woke s t ⊎ (Ready d t × (Ended s t → ⊥)) → Ready d t × (t ≢ slotOf (s .call))
+    back : Woke s t ⊎ (Ready d t × (DidEnd s t → ⊥)) → Ready d t × (t ≢ slotOf (s .call))
     back (inl w) = let k = ap kind (w .0) in absurd (omega arith)
     back (inr (q, free)) = (q, λ e. free (ended (sym e)))
 
@@ -115,11 +115,11 @@ module _ {d : Dispatcher} {slot : ℕ} (r : Outcome) (z : numberOf (r .report .a
   wake-after : Ready (r .dispatcher) t ↔ (Ready d t ⊎ (t ≡ slot)) → ReadyAfter (step (wake slot) r) d t
   wake-after h = ((λ q. there (h .0 q)), λ q. h .1 (back q))
     where
-      there : Ready d t ⊎ (t ≡ slot) → Woke (step (wake slot) r) t ⊎ (Ready d t × (Ended (step (wake slot) r) t → ⊥))
+      there : Ready d t ⊎ (t ≡ slot) → Woke (step (wake slot) r) t ⊎ (Ready d t × (DidEnd (step (wake slot) r) t → ⊥))
       there (inl q) = inr (q, not-ended (step (wake slot) r) (omega arith))
       there (inr e) = inl (ap wake (sym e), z)
 
-      back : Woke (step (wake slot) r) t ⊎ (Ready d t × (Ended (step (wake slot) r) t → ⊥)) → Ready d t ⊎ (t ≡ slot)
+      back : Woke (step (wake slot) r) t ⊎ (Ready d t × (DidEnd (step (wake slot) r) t → ⊥)) → Ready d t ⊎ (t ≡ slot)
       back (inl w) = inr (sym (ap slotOf (w .0)))
       back (inr q) = inl (q .0)
 
@@ -155,10 +155,10 @@ since-ready s l d t L S h same = ((λ q. since-join s l t (forth (after .0 q))),
     after : ReadyAfter s d t
     after = does-ready (s .call) (s .outcome) L S h t
 
-    forth : Woke s t ⊎ (Ready d t × (Ended s t → ⊥)) → Woke s t ⊎ (WokenSince l t × (Ended s t → ⊥))
+    forth : Woke s t ⊎ (Ready d t × (DidEnd s t → ⊥)) → Woke s t ⊎ (WokenSince l t × (DidEnd s t → ⊥))
     forth (inl w) = inl w
     forth (inr q) = inr (same .0 (q .0), q .1)
 
-    back : Woke s t ⊎ (WokenSince l t × (Ended s t → ⊥)) → Woke s t ⊎ (Ready d t × (Ended s t → ⊥))
+    back : Woke s t ⊎ (WokenSince l t × (DidEnd s t → ⊥)) → Woke s t ⊎ (Ready d t × (DidEnd s t → ⊥))
     back (inl w) = inl w
     back (inr q) = inr (same .1 (q .0), q .1)

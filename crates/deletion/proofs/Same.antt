@@ -19,7 +19,7 @@ use Rattle.tasks.proofs.Model.{settled-settles}
 use Rattle.readiness.specs.Block.{Blocks}
 use Rattle.readiness.proofs.Same.{blocks-same}
 use Rattle.readiness.proofs.Keeping.{block-stops-nobody}
-use Rattle.deletion.specs.Delete.{Ends, Deleted, Deletes}
+use Rattle.deletion.specs.Delete.{BlocksThenEmpties, Deleted, Deletes}
 use Rattle.deletion.proofs.Ending.{was-not-ready, block-deletes}
 use Rattle.deletion.proofs.Model.{emptiedOf}
 
@@ -31,7 +31,7 @@ ready-or-not d slot = go (cases (readyTest d slot))
     go (inl y) = inl (ready-decides d slot .yes y)
     go (inr n) = inr (ready-decides d slot .no n)
 
-ends-same : {d : Dispatcher} {slot : ℕ} {r q : Outcome} → Ends d slot r → Ends d slot q → r ≡ q
+ends-same : {d : Dispatcher} {slot : ℕ} {r q : Outcome} → BlocksThenEmpties d slot r → BlocksThenEmpties d slot q → r ≡ q
 ends-same {slot = slot} a b =
     let same = blocks-same (a .blocks) (b .blocks) in
     outcome-same (a .reported ∙ ap (λ (o : Outcome). o .report) same ∙ sym (b .reported)) (a .emptied ∙ ap (λ (o : Outcome). withTask (o .dispatcher) slot noTask) same ∙ sym (b .emptied))

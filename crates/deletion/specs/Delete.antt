@@ -13,14 +13,14 @@ use Rattle.tasks.specs.Table.{withTask, Writes}
 use Rattle.readiness.specs.Block.{Blocks}
 
 -- the task is blocked, then its slot is emptied; the report is the block's
-pub record Ends (d : Dispatcher) (slot : ℕ) (r : Outcome) : Type 0 where
+pub record BlocksThenEmpties (d : Dispatcher) (slot : ℕ) (r : Outcome) : Type 0 where
   pub block : Outcome
   pub blocks : Blocks d slot block
   pub emptied : r .dispatcher ≡ withTask (block .dispatcher) slot noTask
   pub reported : r .report ≡ block .report
 
 pub record Deleted (d : Dispatcher) (slot : ℕ) (r : Outcome) : Type 0 where
-  pub ready : Ready d slot → Ends d slot r
+  pub ready : Ready d slot → BlocksThenEmpties d slot r
   pub not-ready : (Ready d slot → ⊥) → Writes d slot noTask r
 
 -- ready or not, a task is deleted: only the refusals of every call on the task in a slot are left

@@ -189,6 +189,14 @@ module _ {d : Dispatcher} {slot : ℕ} {r : Outcome} (B : Blocks d slot r) where
       go (inl on) = inl on
       go (inr off) = inr (record { ready = block-was B y; off = off })
 
+  -- every slot keeps its task
+  pub block-tasks : numberOf (r .report .answer) ≡ 0 → r .dispatcher .tasks ≡ d .tasks
+  block-tasks y = go (ran-or-waited y)
+    where
+      go : Runs d slot ⊎ Waits d slot → r .dispatcher .tasks ≡ d .tasks
+      go (inl on) = ap (λ (x : Dispatcher). x .tasks) (B .done y .ran (on .core) (on .below) (on .sits) .rest)
+      go (inr w) = ap (λ (x : Dispatcher). x .tasks) (B .done y .waited w .0)
+
   pub block-stops-nobody : r .report .stopped ≡ none
   block-stops-nobody = go (ℕ-discrete (numberOf (r .report .answer)) 0)
     where
