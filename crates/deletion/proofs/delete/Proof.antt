@@ -1,5 +1,6 @@
 -- `deletion::delete` meets its promise: the block has been made, and the slot is emptied where it is done or answers 10.
 use mathlib.Core.Path.{_≡_, sym, _∙_}
+use native.Mathlib.Omega.{arith}
 use borrow.Author.Needs.{needs}
 use Rattle.dispatcher.specs.Answers.{numberOf}
 use Rattle.dispatcher.proofs.Promises.{slot-below}
@@ -21,7 +22,7 @@ still-requires c κs = search needs
 
 -- the block answered 10
 not-ready : (e : tie.Then1) → numberOf (e .before .before .before .before .before .block .result .report .answer) ≡ 10
-not-ready e = sym (e .before .before .number .ensures) ∙ e .if1 .taken ∙ e .before .number2 .ensures
+not-ready e = omega (arith, e .before .before .number .ensures, e .if1 .taken, e .before .number2 .ensures)
 
 written-requires : tie.Need-written-requires
 written-requires c κs = λ _. not-ready-below (c .before .before .before .before .before .before .block .ensures) (not-ready (c .before))
@@ -32,7 +33,7 @@ returns c =
     not-ready-deletes (e .before .before .before .before .before .block .ensures) (not-ready e) (rw (c .before .still .ensures) at (c .written .ensures))
 
 written-requires-2 : tie.Need-written-requires-2
-written-requires-2 c κs = slot-below (c .before .before .before .before .before .block .ensures .answer)
+written-requires-2 c κs = λ z. slot-below (c .before .before .before .before .before .block .ensures .answer) (omega (arith, z))
 
 returns-2 : tie.Need-returns-2
 returns-2 c =
