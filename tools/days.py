@@ -25,6 +25,15 @@ def sheet(name, text, *shows):
     return Vector(name, pack(text), list(shows))
 
 
+def block_and_delete(what, text, *shows):
+    """Two days on one board: a delete of a ready task reports as the block."""
+    return [
+        sheet(f"block-{what}", text, *shows),
+        sheet(f"delete-{what}", text.replace("block ", "delete "),
+              *(line.replace(" B ", " D ") for line in shows)),
+    ]
+
+
 def raw(name, data, *shows):
     return Vector(name, bytes(data), list(shows))
 
@@ -672,7 +681,7 @@ def block_vectors():
             block 1
             """,
             "7 B 1 0 0 - - 0,-"),
-        sheet("block-by-priority", """
+        *block_and_delete("by-priority", """
             cores 1
             create 0 90 0
             create 1 10 0
@@ -696,7 +705,7 @@ def block_vectors():
             block 0
             """,
             "5 B 1 0 0 - - 0", "6 B 0 0 0 - - -"),
-        sheet("block-not-stopped", """
+        *block_and_delete("not-stopped", """
             cores 2
             create 0 50 0
             create 1 40 1
@@ -783,29 +792,6 @@ def delete_vectors():
             delete 2
             """,
             "6 W 2 0 0 - - 0,1", "7 D 1 0 0 - - 0,-", "8 D 0 0 0 2 - 2,-", "9 D 2 0 0 - - -,-"),
-        sheet("delete-not-stopped", """
-            cores 2
-            create 0 50 0
-            create 1 40 1
-            wake 0
-            wake 1
-            delete 0
-            """,
-            "5 D 0 0 0 - - -,1"),
-        sheet("delete-by-priority", """
-            cores 1
-            create 0 90 0
-            create 1 10 0
-            create 2 30 0
-            create 3 20 0
-            wake 0
-            wake 1
-            wake 2
-            wake 3
-            delete 0       # slot 1 woke first, slot 2 is the most urgent
-            delete 2
-            """,
-            "9 D 0 0 0 2 - 2", "10 D 2 0 0 3 - 3"),
         sheet("delete-equals", """
             cores 1
             create 0 50 0

@@ -19,6 +19,8 @@ use Rattle.dispatcher.specs.declared.TaskRecord.{TaskRecord}
 use Rattle.dispatcher.specs.declared.Report.{Report}
 use Rattle.dispatcher.specs.declared.Dispatcher.{Dispatcher}
 use Rattle.dispatcher.specs.declared.Outcome.{Outcome}
+use Rattle.dispatcher.proofs.Ready.{ready-alike}
+use Rattle.dispatcher.proofs.Stable.{ready-or-not}
 use Rattle.dispatcher.proofs.Freshness.{freshly-keeps}
 use Rattle.order.specs.ComesBefore.{priorityOf, ComesBefore}
 use Rattle.shifting.specs.Rule.{KeepsIn}
@@ -29,7 +31,6 @@ use Rattle.boot.specs.Load.{AllCreated, AllOrNone}
 use Rattle.boot.proofs.Keeping.{loaded-off}
 use Rattle.readiness.proofs.Keeping.{Ruled, promised-keeps, Rule, promised-rule, some-core, wake-rule, block-rule, block-ready}
 use Rattle.deletion.specs.Delete.{BlocksThenEmpties, Deletes}
-use Rattle.deletion.proofs.Same.{ready-or-not}
 use Rattle.deletion.proofs.Keeping.{block-done, ended-off}
 use Rattle.calls.specs.Call.{Call, create, delete, load, wake, block, Does}
 use Rattle.tasks.proofs.Keeping.{created-off}
@@ -60,14 +61,8 @@ withTasks d ts = record { cores = d .cores; tasks = ts; order = d .order; seats 
 
 -- the ready tasks are the same in ts and us
 module _ (d : Dispatcher) (ts us : List Task) (same : (t : ℕ) → Ready d t → getD us t noTask ≡ getD ts t noTask) where
-  other-ready : {t : ℕ} → Ready (withTasks d ts) t → Ready (withTasks d us) t
-  other-ready r = record { slot = r .slot; place = r .place; within = r .within; stands = r .stands }
-
-  ready-other : {t : ℕ} → Ready (withTasks d us) t → Ready (withTasks d ts) t
-  ready-other r = record { slot = r .slot; place = r .place; within = r .within; stands = r .stands }
-
   same-task : {t : ℕ} → Ready (withTasks d ts) t → getD us t noTask ≡ getD ts t noTask
-  same-task r = same _ (record { slot = r .slot; place = r .place; within = r .within; stands = r .stands })
+  same-task r = same _ (ready-alike refl r)
 
   same-priority : {t : ℕ} → Ready (withTasks d ts) t → priorityOf (withTasks d us) t ≡ priorityOf (withTasks d ts) t
   same-priority r = ap (λ (x : Task). x .priority) (same-task r)
@@ -77,7 +72,7 @@ module _ (d : Dispatcher) (ts us : List Task) (same : (t : ℕ) → Ready d t �
   same-order rt ru (inr (e, h)) = let a = same-priority rt in let b = same-priority ru in inr (omega arith, h)
 
   other-keeps : {s : ℕ → ℕ} → KeepsIn (withTasks d ts) s → KeepsIn (withTasks d us) s
-  other-keeps = keeps-agree (λ t c r l. rw (same-task r) refl) (λ t u r q. same-order r q) (λ t r. other-ready r) (λ t r. ready-other r)
+  other-keeps = keeps-agree (λ t c r l. rw (same-task r) refl) (λ t u r q. same-order r q) (λ t r. ready-alike refl r) (λ t r. ready-alike refl r)
 
 -- what holds of a call that leaves x holds still where slots of x that are not ready are written
 module _ (x : Dispatcher) (ts : List Task) (same : (t : ℕ) → Ready x t → getD ts t noTask ≡ taskAt x t) where
@@ -85,7 +80,7 @@ module _ (x : Dispatcher) (ts : List Task) (same : (t : ℕ) → Ready x t → g
   aside-rule d R = (other-keeps x (x .tasks) ts same (R .0), record { fewest = λ s K. R .1 .fewest s (other-keeps x ts (x .tasks) (λ t r. sym (same t r)) K); told = R .1 .told; below = R .1 .below })
 
   aside-ready : (t : ℕ) → Ready (withTasks x ts) t ↔ Ready x t
-  aside-ready t = (ready-other x (x .tasks) ts same, other-ready x (x .tasks) ts same)
+  aside-ready t = (ready-alike refl, ready-alike refl)
 
 -- a call that leaves the seats, with a report of no move
 stays-rule : {d : Dispatcher} → Sound d → KeepsIn d (seatAt d) → Rule d d 0

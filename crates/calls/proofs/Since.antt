@@ -84,12 +84,18 @@ not-ended : {t : ℕ} (s : Step) → kind (s .call) < 3 → DidEnd s t → ⊥
 not-ended s aside (inl b) = let k = ap kind (b .0) in omega arith
 not-ended s aside (inr b) = let k = ap kind (b .0) in omega arith
 
-refused-after : {rs : List Refusal} {d : Dispatcher} {P : Outcome → Type 0} (s : Step) → Promised rs d P (s .outcome) → numberOf (s .outcome .report .answer) ≢ 0 → (t : ℕ) → ReadyAfter s d t
-refused-after {d = d} s h z t = rw (h .kept z) ((λ r. inr (r, λ b. z (ended-done s b))), back)
+-- a refused call leaves who is ready
+done-or-refused : {rs : List Refusal} {d : Dispatcher} {P : Outcome → Type 0} (s : Step) (t : ℕ) → Promised rs d P (s .outcome) → (numberOf (s .outcome .report .answer) ≡ 0 → ReadyAfter s d t)
+    → ReadyAfter s d t
+done-or-refused {d = d} s t h done = go (ℕ-discrete (numberOf (s .outcome .report .answer)) 0)
   where
-    back : Woke s t ⊎ (Ready d t × (DidEnd s t → ⊥)) → Ready d t
-    back (inl w) = absurd (z (w .1))
-    back (inr r) = r .0
+    back : numberOf (s .outcome .report .answer) ≢ 0 → Woke s t ⊎ (Ready d t × (DidEnd s t → ⊥)) → Ready d t
+    back z (inl w) = absurd (z (w .1))
+    back z (inr r) = r .0
+
+    go : Dec (numberOf (s .outcome .report .answer) ≡ 0) → ReadyAfter s d t
+    go (yes z) = done z
+    go (no z) = rw (h .kept z) ((λ r. inr (r, λ b. z (ended-done s b))), back z)
 
 -- create and load
 aside-after : {d : Dispatcher} (s : Step) → kind (s .call) < 2 → (t : ℕ) → Ready (s .outcome .dispatcher) t ↔ Ready d t → ReadyAfter s d t
@@ -123,30 +129,12 @@ module _ {d : Dispatcher} {slot : ℕ} (r : Outcome) (z : numberOf (r .report .a
       back (inl w) = inr (sym (ap slotOf (w .0)))
       back (inr q) = inl (q .0)
 
-  block-after : Ready (r .dispatcher) t ↔ (Ready d t × (t ≢ slot)) → ReadyAfter (step (block slot) r) d t
-  block-after h = ends-after (step (block slot) r) (omega arith) (λ e. inl (ap block e, z)) h
-
-  delete-after : Ready (r .dispatcher) t ↔ (Ready d t × (t ≢ slot)) → ReadyAfter (step (delete slot) r) d t
-  delete-after h = ends-after (step (delete slot) r) (omega arith) (λ e. inr (ap delete e, z)) h
-
 does-ready : (c : Call) {d : Dispatcher} (r : Outcome) → Shaped d → Sound d → Does c d r → (t : ℕ) → ReadyAfter (step c r) d t
 does-ready (create slot priority mask) r L S h t = aside-after (step (create slot priority mask) r) (omega arith) t (create-ready S h t)
 does-ready (load list) r L S h t = aside-after (step (load list) r) (omega arith) t (load-ready S h t)
-does-ready (wake slot) {d} r L S h t = go (ℕ-discrete (numberOf (r .report .answer)) 0)
-  where
-    go : Dec (numberOf (r .report .answer) ≡ 0) → ReadyAfter (step (wake slot) r) d t
-    go (yes z) = wake-after r z t (wake-ready L S h z t)
-    go (no z) = refused-after (step (wake slot) r) h z t
-does-ready (block slot) {d} r L S h t = go (ℕ-discrete (numberOf (r .report .answer)) 0)
-  where
-    go : Dec (numberOf (r .report .answer) ≡ 0) → ReadyAfter (step (block slot) r) d t
-    go (yes z) = block-after r z t (block-ready L S h z t)
-    go (no z) = refused-after (step (block slot) r) h z t
-does-ready (delete slot) {d} r L S h t = go (ℕ-discrete (numberOf (r .report .answer)) 0)
-  where
-    go : Dec (numberOf (r .report .answer) ≡ 0) → ReadyAfter (step (delete slot) r) d t
-    go (yes z) = delete-after r z t (delete-ready L S h z t)
-    go (no z) = refused-after (step (delete slot) r) h z t
+does-ready (wake slot) r L S h t = done-or-refused (step (wake slot) r) t h (λ z. wake-after r z t (wake-ready L S h z t))
+does-ready (block slot) r L S h t = done-or-refused (step (block slot) r) t h (λ z. ends-after (step (block slot) r) (omega arith) (λ e. inl (ap block e, z)) (block-ready L S h z t))
+does-ready (delete slot) r L S h t = done-or-refused (step (delete slot) r) t h (λ z. ends-after (step (delete slot) r) (omega arith) (λ e. inr (ap delete e, z)) (delete-ready L S h z t))
 
 pub since-ready : (s : Step) (l : List Step) (d : Dispatcher) (t : ℕ) → Shaped d → Sound d → Does (s .call) d (s .outcome) → Ready d t ↔ WokenSince l t
     → Ready (s .outcome .dispatcher) t ↔ WokenSince (s ∷ l) t

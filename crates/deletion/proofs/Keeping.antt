@@ -3,26 +3,26 @@ use Prim.Native.Nat.{ℕ, _<_}
 use mathlib.Core.Path.{_≡_, refl, sym, ap, _∙_}
 use mathlib.Core.Logic.{_⊎_, inl, inr}
 use mathlib.Core.List.{List}
-use native.Mathlib.Decide.{ℕ-discrete}
 use native.Mathlib.Omega.{arith}
 use lib.ListN.{getD}
 use Rattle.dispatcher.specs.Limits.{slotLimit}
 use Rattle.dispatcher.specs.Slots.{noTask, taskAt, Used, Ready, Shaped}
 use Rattle.dispatcher.specs.Sound.{Sound}
-use Rattle.dispatcher.specs.Answers.{numberOf, Refusal, Applies, Answers}
+use Rattle.dispatcher.specs.Answers.{numberOf, Applies}
 use Rattle.dispatcher.specs.declared.Task.{Task}
 use Rattle.dispatcher.specs.declared.Report.{Report}
 use Rattle.dispatcher.specs.declared.Dispatcher.{Dispatcher}
 use Rattle.dispatcher.specs.declared.Outcome.{Outcome}
-use Rattle.dispatcher.proofs.Promises.{slot-below}
+use Rattle.dispatcher.proofs.Promises.{done-where-none, slot-below}
 use Rattle.dispatcher.proofs.Ready.{ready-used}
+use Rattle.dispatcher.proofs.Stable.{ready-or-not}
 use Rattle.tasks.specs.Table.{withTask}
 use Rattle.tasks.proofs.Keeping.{with-task-keeps}
 use Rattle.readiness.specs.Block.{Blocks}
 use Rattle.readiness.proofs.Same.{blocks-same}
 use Rattle.readiness.proofs.Keeping.{promised-keeps, block-tasks, block-keeps, block-ready}
 use Rattle.deletion.specs.Delete.{BlocksThenEmpties, deleteRefusals, Deletes}
-use Rattle.deletion.proofs.Same.{ready-or-not, reports-as-block}
+use Rattle.deletion.proofs.Same.{reports-as-block}
 
 emptied-keeps : {d : Dispatcher} {slot : ℕ} → Shaped d → Sound d → slot < slotLimit → (Ready d slot → ⊥) → Shaped (withTask d slot noTask) × Sound (withTask d slot noTask)
 emptied-keeps L S below off = with-task-keeps L S below off (λ u. absurd (u (refl, refl)))
@@ -47,13 +47,6 @@ delete-keeps {d} {slot} {r} L S D = promised-keeps (λ x. Shaped x × Sound x) D
 
 -- ---- delete of a ready task is block and then delete
 
-cleared : {rs : List Refusal} {n : ℕ} → Answers rs n → ((m : ℕ) → Applies rs m → ⊥) → n ≡ 0
-cleared {n = n} h none = go (ℕ-discrete n 0)
-  where
-    go : Dec (n ≡ 0) → n ≡ 0
-    go (yes z) = z
-    go (no z) = absurd (none n (h .listed z))
-
 -- nothing refuses a delete of a used slot
 none-refuses : {d : Dispatcher} {slot : ℕ} → Sound d → slot < slotLimit → Used (taskAt d slot) → (m : ℕ) → Applies (deleteRefusals d slot) m → ⊥
 none-refuses S below used m (inl (_, bad)) = bad S
@@ -66,7 +59,7 @@ pub as-block-then-delete : {d : Dispatcher} {slot : ℕ} {b q r : Outcome} → S
 as-block-then-delete {d} {slot} {b} {q} {r} L S on B Q D = (E .emptied ∙ ap (λ (o : Outcome). withTask (o .dispatcher) slot noTask) same ∙ sym (Q .done later .not-ready gone .written), reports-as-block on B D)
   where
     z : numberOf (r .report .answer) ≡ 0
-    z = cleared (D .answer) (none-refuses S (on .slot) (ready-used S on))
+    z = done-where-none (D .answer) (none-refuses S (on .slot) (ready-used S on))
 
     E : BlocksThenEmpties d slot r
     E = D .done z .ready on
@@ -81,4 +74,4 @@ as-block-then-delete {d} {slot} {b} {q} {r} L S on B Q D = (E .emptied ∙ ap (�
     gone k = block-ready L S B y slot .0 k .1 refl
 
     later : numberOf (q .report .answer) ≡ 0
-    later = cleared (Q .answer) (none-refuses (block-keeps L S B .1) (on .slot) (rw (ap (λ (l : List Task). getD l slot noTask) (block-tasks B y)) (ready-used S on)))
+    later = done-where-none (Q .answer) (none-refuses (block-keeps L S B .1) (on .slot) (rw (ap (λ (l : List Task). getD l slot noTask) (block-tasks B y)) (ready-used S on)))

@@ -2,9 +2,7 @@
 use Prim.Native.Nat.{ℕ}
 use mathlib.Core.Path.{_≡_, sym, ap, _∙_}
 use mathlib.Core.Logic.{_⊎_, inl, inr}
-use mathlib.Core.Bool.{true, false}
 use native.Mathlib.Decide.{ℕ-discrete}
-use Rattle.laws.proofs.Deciding.{cases}
 use Rattle.dispatcher.specs.Limits.{none}
 use Rattle.dispatcher.specs.Slots.{noTask, Ready}
 use Rattle.dispatcher.specs.Answers.{numberOf}
@@ -12,7 +10,7 @@ use Rattle.dispatcher.specs.declared.Report.{Report}
 use Rattle.dispatcher.specs.declared.Dispatcher.{Dispatcher}
 use Rattle.dispatcher.specs.declared.Outcome.{Outcome}
 use Rattle.dispatcher.proofs.Same.{outcome-same, promised-same}
-use Rattle.dispatcher.proofs.Testing.{readyTest, ready-decides}
+use Rattle.dispatcher.proofs.Stable.{ready-or-not}
 use Rattle.tasks.specs.Table.{withTask}
 use Rattle.tasks.proofs.Same.{writes-same}
 use Rattle.tasks.proofs.Model.{settled-settles}
@@ -22,14 +20,6 @@ use Rattle.readiness.proofs.Keeping.{block-stops-nobody}
 use Rattle.deletion.specs.Delete.{BlocksThenEmpties, Deleted, Deletes}
 use Rattle.deletion.proofs.Ending.{was-not-ready, block-deletes}
 use Rattle.deletion.proofs.Model.{emptiedOf}
-
--- the task in a slot is ready, or it is not
-pub ready-or-not : (d : Dispatcher) (slot : ℕ) → Ready d slot ⊎ (Ready d slot → ⊥)
-ready-or-not d slot = go (cases (readyTest d slot))
-  where
-    go : (readyTest d slot ≡ true) ⊎ (readyTest d slot ≡ false) → Ready d slot ⊎ (Ready d slot → ⊥)
-    go (inl y) = inl (ready-decides d slot .yes y)
-    go (inr n) = inr (ready-decides d slot .no n)
 
 ends-same : {d : Dispatcher} {slot : ℕ} {r q : Outcome} → BlocksThenEmpties d slot r → BlocksThenEmpties d slot q → r ≡ q
 ends-same {slot = slot} a b =

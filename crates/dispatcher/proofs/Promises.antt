@@ -3,7 +3,7 @@ use Prim.Native.Nat.{ℕ, _≤_, _<_}
 use mathlib.Core.Path.{_≡_, refl}
 use mathlib.Core.Logic.{_≢_, _⊎_, inl, inr}
 use mathlib.Core.List.{List, [], _∷_, _++_}
-use native.Mathlib.Decide.{decLt}
+use native.Mathlib.Decide.{ℕ-discrete, decLt}
 use native.Mathlib.Omega.{arith}
 use Rattle.dispatcher.specs.Limits.{slotLimit}
 use Rattle.dispatcher.specs.Answers.{numberOf, Refusal, _when_, Applies, Answers}
@@ -17,6 +17,14 @@ use Rattle.dispatcher.specs.declared.Outcome.{Outcome}
 -- where a call is done, no refusal applies
 pub none-applies : {rs : List Refusal} {n : ℕ} → Answers rs n → n ≡ 0 → (m : ℕ) → Applies rs m → ⊥
 none-applies h z m a = let p = h .lowest m a in omega (arith, p .0)
+
+-- where no refusal applies, a call is done
+pub done-where-none : {rs : List Refusal} {n : ℕ} → Answers rs n → ((m : ℕ) → Applies rs m → ⊥) → n ≡ 0
+done-where-none {n = n} h none = go (ℕ-discrete n 0)
+  where
+    go : Dec (n ≡ 0) → n ≡ 0
+    go (yes z) = z
+    go (no z) = absurd (none n (h .listed z))
 
 -- where a call that names a slot is done, there is such a slot
 pub slot-below : {Unsound : Type 0} {slot : ℕ} {rs : List Refusal} {n : ℕ} → Answers (1 when Unsound ∷ 3 when IsAbove slot ∷ rs) n → n ≡ 0 → slot < slotLimit

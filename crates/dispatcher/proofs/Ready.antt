@@ -1,6 +1,6 @@
--- A ready slot: its place holds no mark, it is no mark itself, and it is used.
+-- A ready slot: its place holds no mark, it is no mark itself, and it is used; dispatchers with one wake order have the same ready slots.
 use Prim.Native.Nat.{ℕ}
-use mathlib.Core.Path.{subst}
+use mathlib.Core.Path.{_≡_, subst}
 use mathlib.Core.Logic.{_≢_}
 use native.Mathlib.Omega.{arith}
 use Rattle.dispatcher.specs.Limits.{none}
@@ -16,3 +16,6 @@ ready-real r e = omega (arith, r .slot, e)
 
 pub ready-used : {d : Dispatcher} {s : ℕ} → Sound d → Ready d s → Used (taskAt d s)
 ready-used {d} S r = subst (λ (v : ℕ). Used (taskAt d v)) (r .stands) (S .order (r .place) (r .within) (ready-held r) .used)
+
+pub ready-alike : {d e : Dispatcher} {s : ℕ} → d .order ≡ e .order → Ready d s → Ready e s
+ready-alike same r = record { slot = r .slot; place = r .place; within = r .within; stands = rw (← same) (r .stands) }

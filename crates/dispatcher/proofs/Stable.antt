@@ -4,7 +4,6 @@ use mathlib.Core.Path.{_≡_}
 use mathlib.Core.Logic.{_⊎_, inl, inr}
 use mathlib.Core.Bool.{Bool, true, false}
 use native.Mathlib.Decide.{ℕ-discrete, decLe, decLt}
-use Rattle.laws.specs.Decides.{Decides}
 use Rattle.laws.proofs.Deciding.{cases, clash}
 use Rattle.masks.specs.Masks.{has}
 use Rattle.dispatcher.specs.Limits.{coreLimit, slotLimit, none, greatestPriority}
@@ -18,10 +17,6 @@ pub by-dec : {P : Type 0} → Dec P → ((P → ⊥) → ⊥) → P
 by-dec (yes p) h = p
 by-dec (no n) h = absurd (h n)
 
-by-test : {P : Type 0} {b : Bool} → Decides P b → (b ≡ true) ⊎ (b ≡ false) → ((P → ⊥) → ⊥) → P
-by-test D (inl y) h = D .yes y
-by-test D (inr n) h = absurd (h (D .no n))
-
 by-bool : (b : Bool) → ((b ≡ true → ⊥) → ⊥) → b ≡ true
 by-bool b h = go (cases b)
   where
@@ -29,8 +24,20 @@ by-bool b h = go (cases b)
     go (inl y) = y
     go (inr n) = absurd (h (λ y. clash y n))
 
+-- the task in a slot is ready, or it is not
+pub ready-or-not : (d : Dispatcher) (s : ℕ) → Ready d s ⊎ (Ready d s → ⊥)
+ready-or-not d s = go (cases (readyTest d s))
+  where
+    go : (readyTest d s ≡ true) ⊎ (readyTest d s ≡ false) → Ready d s ⊎ (Ready d s → ⊥)
+    go (inl y) = inl (ready-decides d s .yes y)
+    go (inr n) = inr (ready-decides d s .no n)
+
 pub not-unready : (d : Dispatcher) (s : ℕ) → ((Ready d s → ⊥) → ⊥) → Ready d s
-not-unready d s h = by-test (ready-decides d s) (cases (readyTest d s)) h
+not-unready d s h = go (ready-or-not d s)
+  where
+    go : Ready d s ⊎ (Ready d s → ⊥) → Ready d s
+    go (inl r) = r
+    go (inr n) = absurd (h n)
 
 pub not-unsound : (d : Dispatcher) → (IsUnsound d → ⊥) → Sound d
 not-unsound d h = record {

@@ -12,16 +12,17 @@ use Rattle.dispatcher.specs.Limits.{coreLimit, none}
 use Rattle.dispatcher.specs.Slots.{seatAt, Ready, Shaped}
 use Rattle.dispatcher.specs.Sound.{Seated, Sound}
 use Rattle.dispatcher.specs.declared.Dispatcher.{Dispatcher}
+use Rattle.dispatcher.proofs.Ready.{ready-alike}
 use Rattle.shifting.specs.Board.{mayRun, withSeats}
 use Rattle.shifting.specs.Rule.{KeepsIn, LeastIn}
 
 -- ---- who is ready, and demands 2 and 3
 
 pub reseated-ready : {d : Dispatcher} (l : List ℕ) {t : ℕ} → Ready d t → Ready (withSeats d l) t
-reseated-ready l r = record { slot = r .slot; place = r .place; within = r .within; stands = r .stands }
+reseated-ready l r = ready-alike refl r
 
 pub ready-before : (d : Dispatcher) (l : List ℕ) {t : ℕ} → Ready (withSeats d l) t → Ready d t
-ready-before d l r = record { slot = r .slot; place = r .place; within = r .within; stands = r .stands }
+ready-before d l r = ready-alike refl r
 
 pub reseated-keeps : {d : Dispatcher} (l : List ℕ) {s : ℕ → ℕ} → KeepsIn d s → KeepsIn (withSeats d l) s
 reseated-keeps {d} l = keeps-agree (λ t c r b. refl) (λ t u r q b. b) (λ t r. reseated-ready l r) (λ t r. ready-before d l r)

@@ -1,6 +1,6 @@
 -- A slot that is not ready gets another task, none or a legal one: the dispatcher stays sound, and so create keeps it; a slot that was created is not ready.
 use Prim.Native.Nat.{ℕ, _≤_, _<_}
-use mathlib.Core.Path.{_≡_, refl, _∙_, subst}
+use mathlib.Core.Path.{_≡_, refl, ap, _∙_, subst}
 use mathlib.Core.Logic.{_≢_, inl, inr}
 use native.Mathlib.Decide.{ℕ-discrete}
 use native.Mathlib.Omega.{arith}
@@ -17,7 +17,7 @@ use Rattle.dispatcher.specs.declared.Outcome.{Outcome}
 use Rattle.dispatcher.proofs.Promises.{none-applies, slot-below}
 use Rattle.tasks.specs.Table.{withTask}
 use Rattle.tasks.specs.Create.{Creates}
-use Rattle.dispatcher.proofs.Ready.{ready-used}
+use Rattle.dispatcher.proofs.Ready.{ready-used, ready-alike}
 
 module _ {d : Dispatcher} {slot : ℕ} {t : Task} (L : Shaped d) (S : Sound d) (below : slot < slotLimit) (off : Ready d slot → ⊥) (legal : Used t → LegalTask (d .cores) t) where
   here : taskAt (withTask d slot t) slot ≡ t
@@ -37,7 +37,7 @@ module _ {d : Dispatcher} {slot : ℕ} {t : Task} (L : Shaped d) (S : Sound d) (
       moved q = off (record { slot = below; place = k; within = l; stands = q })
 
   kept-seat : (c : ℕ) → Seated d c → Seated (withTask d slot t) c
-  kept-seat c s = record { ready = record { slot = s .ready .slot; place = s .ready .place; within = s .ready .within; stands = s .ready .stands }; once = s .once; allowed = rw (other (seatAt d c) moved) (s .allowed) }
+  kept-seat c s = record { ready = ready-alike refl (s .ready); once = s .once; allowed = rw (other (seatAt d c) moved) (s .allowed) }
     where
       moved : seatAt d c ≢ slot
       moved q = off (subst (Ready d) q (s .ready))
@@ -71,10 +71,7 @@ module _ {d : Dispatcher} {slot priority mask : ℕ} {r : Outcome} (S : Sound d)
       positive n = omega arith
 
   pub created-not-ready : Ready (r .dispatcher) slot → ⊥
-  created-not-ready q = created-off (elsewhere (subst (λ (e : Dispatcher). Ready e slot) (C .done z .written) q))
-    where
-      elsewhere : Ready (withTask d slot (record { priority = priority; mask = mask })) slot → Ready d slot
-      elsewhere e = record { slot = e .slot; place = e .place; within = e .within; stands = e .stands }
+  created-not-ready q = created-off (ready-alike (ap (λ (e : Dispatcher). e .order) (C .done z .written)) q)
 
 pub create-keeps : {d : Dispatcher} {slot priority mask : ℕ} {r : Outcome} → Shaped d → Sound d → priority ≤ greatestPriority → Creates d slot priority mask r
     → Shaped (r .dispatcher) × Sound (r .dispatcher)
