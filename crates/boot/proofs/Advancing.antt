@@ -8,14 +8,15 @@ use native.Mathlib.Nat.{add-zero}
 use native.Mathlib.Omega.{arith}
 use lib.ListN.{length, drop, length-drop}
 use lib.Seq.{getD-drop, drop-drop}
+use Rattle.laws.specs.Answering.{Answers}
+use Rattle.laws.proofs.Answering.{none-applies}
 use Rattle.dispatcher.specs.Slots.{noRecord, Shaped}
-use Rattle.dispatcher.specs.Answers.{numberOf, Answers}
+use Rattle.dispatcher.specs.Answers.{numberOf}
 use Rattle.dispatcher.specs.Refusals.{IsUnsound}
 use Rattle.dispatcher.specs.Reports.{stillOf}
 use Rattle.dispatcher.specs.declared.Report.{Report}
 use Rattle.dispatcher.specs.declared.TaskRecord.{TaskRecord}
 use Rattle.dispatcher.specs.declared.Dispatcher.{Dispatcher}
-use Rattle.dispatcher.proofs.Promises.{none-applies}
 use Rattle.boot.specs.Load.{recordAt, recordRefusals, FirstRefused, loadRefusals, Names, Loads}
 use Rattle.boot.specs.Loading.{Begins, Advances, AdvancesAll, Ends}
 use Rattle.boot.specs.declared.Loading.{Loading}

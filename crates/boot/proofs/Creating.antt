@@ -8,19 +8,20 @@ use native.Mathlib.Omega.{arith}
 use lib.ListN.{length, take}
 use lib.Seq.{take-suc, take-length}
 use Rattle.laws.specs.Lists.{All}
+use Rattle.laws.specs.Answering.{_when_, Answers}
 use Rattle.laws.proofs.Lists.{all-at}
+use Rattle.laws.proofs.Answering.{none-applies, answers-by, answers-then, answers-none, answers-same}
 use Rattle.dispatcher.specs.Limits.{greatestPriority}
 use Rattle.dispatcher.specs.Slots.{noRecord, Shaped}
 use Rattle.dispatcher.specs.Sound.{Sound}
-use Rattle.dispatcher.specs.Answers.{numberOf, _when_, Answers}
+use Rattle.dispatcher.specs.Answers.{numberOf}
 use Rattle.dispatcher.specs.Refusals.{IsUnsound}
 use Rattle.dispatcher.specs.Reports.{stillOf}
 use Rattle.dispatcher.specs.declared.Answer.the-variants.{Done}
 use Rattle.dispatcher.specs.declared.TaskRecord.{TaskRecord}
 use Rattle.dispatcher.specs.declared.Dispatcher.{Dispatcher}
 use Rattle.dispatcher.specs.declared.Outcome.{Outcome}
-use Rattle.dispatcher.proofs.Promises.{none-applies, answers-by, answers-then, answers-none, accepted}
-use Rattle.dispatcher.proofs.Same.{answers-same}
+use Rattle.dispatcher.proofs.Promises.{accepted}
 use Rattle.dispatcher.proofs.Stable.{not-unsound}
 use Rattle.tasks.proofs.Keeping.{create-keeps}
 use Rattle.boot.specs.Load.{recordAt, FirstRefused, AllOrNone}

@@ -7,15 +7,15 @@ use native.Mathlib.Decide.{ℕ-discrete, decLt}
 use native.Mathlib.Omega.{arith}
 use lib.ListN.{length, length-set}
 use lib.Seq.{getD-set-same, getD-set-other, ext-getD}
+use Rattle.laws.specs.Answering.{Answers}
+use Rattle.laws.proofs.Answering.{none-applies}
 use Rattle.dispatcher.specs.Limits.{slotLimit}
 use Rattle.dispatcher.specs.Slots.{noTask, taskAt, taskOf, Used, Shaped}
-use Rattle.dispatcher.specs.Answers.{Answers}
 use Rattle.dispatcher.specs.Refusals.{IsInUse}
 use Rattle.dispatcher.specs.Reports.{stillOf}
 use Rattle.dispatcher.specs.declared.TaskRecord.{TaskRecord}
 use Rattle.dispatcher.specs.declared.Dispatcher.{Dispatcher}
 use Rattle.dispatcher.specs.declared.Outcome.{Outcome}
-use Rattle.dispatcher.proofs.Promises.{none-applies}
 use Rattle.tasks.specs.Table.{withTask}
 use Rattle.boot.specs.Load.{recordAt, recordRefusals, AllCreated}
 use Rattle.boot.proofs.Refusing.{NamedBy, NamedByNone, named-or-not, Alike, Accepted}

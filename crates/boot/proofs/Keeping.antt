@@ -6,6 +6,7 @@ use mathlib.Core.List.{List, [], _∷_}
 use native.Mathlib.Decide.{ℕ-discrete}
 use lib.ListN.{length}
 use Rattle.laws.specs.Lists.{All}
+use Rattle.laws.proofs.Answering.{none-applies}
 use Rattle.dispatcher.specs.Limits.{greatestPriority}
 use Rattle.dispatcher.specs.Slots.{Ready, Shaped}
 use Rattle.dispatcher.specs.Sound.{Sound}
@@ -13,7 +14,6 @@ use Rattle.dispatcher.specs.Answers.{numberOf}
 use Rattle.dispatcher.specs.declared.TaskRecord.{TaskRecord}
 use Rattle.dispatcher.specs.declared.Dispatcher.{Dispatcher}
 use Rattle.dispatcher.specs.declared.Outcome.{Outcome}
-use Rattle.dispatcher.proofs.Promises.{none-applies}
 use Rattle.dispatcher.proofs.Ready.{ready-used}
 use Rattle.tasks.proofs.Keeping.{create-keeps}
 use Rattle.boot.specs.Load.{recordAt, AllOrNone}

@@ -8,11 +8,12 @@ use native.Mathlib.Omega.{arith}
 use lib.Dec.{eqb}
 use borrow.Author.Tests.{eq-eqb, ne-eqb}
 use Rattle.laws.specs.Decides.{Decides}
+use Rattle.laws.specs.Answering.{_when_}
 use Rattle.laws.proofs.Deciding.{cases, decides-not}
 use Rattle.laws.proofs.Testing.{eqb-eq, eqb-ne}
 use Rattle.dispatcher.specs.Slots.{Shaped}
 use Rattle.dispatcher.specs.Sound.{Sound}
-use Rattle.dispatcher.specs.Answers.{numberOf, _when_}
+use Rattle.dispatcher.specs.Answers.{numberOf}
 use Rattle.dispatcher.specs.Refusals.{IsUnsound}
 use Rattle.dispatcher.specs.declared.Answer.the-variants.{NotSound}
 use Rattle.dispatcher.specs.declared.TaskRecord.{TaskRecord}

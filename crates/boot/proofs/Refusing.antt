@@ -9,15 +9,14 @@ use native.Mathlib.Omega.{arith}
 use lib.ListN.{length}
 use lib.Dec.{eqb}
 use Rattle.laws.specs.Lowest.{Lowest}
+use Rattle.laws.specs.Answering.{Refusal, Applies, Answers}
 use Rattle.laws.proofs.Testing.{eqb-eq, eqb-ne}
 use Rattle.laws.proofs.Lowering.{lowest-same}
 use Rattle.laws.proofs.Counting.{find}
-use Rattle.dispatcher.specs.Answers.{Refusal, Applies, Answers}
+use Rattle.laws.proofs.Answering.{answers-by, none-applies, answers-same}
 use Rattle.dispatcher.specs.Refusals.{IsUnsound, IsInUse}
 use Rattle.dispatcher.specs.declared.TaskRecord.{TaskRecord}
 use Rattle.dispatcher.specs.declared.Dispatcher.{Dispatcher}
-use Rattle.dispatcher.proofs.Promises.{answers-by, none-applies}
-use Rattle.dispatcher.proofs.Same.{answers-same}
 use Rattle.tasks.specs.Create.{entryRefusals}
 use Rattle.tasks.proofs.Model.{entry-answers}
 use Rattle.boot.specs.Load.{recordAt, NamedBefore, recordRefusals, FirstRefused, RecordGives, loadRefusals}

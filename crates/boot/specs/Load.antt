@@ -5,8 +5,9 @@ use mathlib.Core.Path.{_≡_}
 use mathlib.Core.Logic.{_≢_, _⊎_}
 use mathlib.Core.List.{List, [], _∷_}
 use lib.ListN.{length, getD}
+use Rattle.laws.specs.Answering.{Refusal, _when_, Answers}
 use Rattle.dispatcher.specs.Slots.{taskAt, taskOf, noRecord}
-use Rattle.dispatcher.specs.Answers.{numberOf, Refusal, _when_, Answers}
+use Rattle.dispatcher.specs.Answers.{numberOf}
 use Rattle.dispatcher.specs.Refusals.{IsUnsound, IsAbove, IsInUse, IsPriorityZero, IsMaskEmpty, IsMissingCore}
 use Rattle.dispatcher.specs.Reports.{stillOf}
 use Rattle.dispatcher.specs.Promise.{Promised}

@@ -6,6 +6,7 @@ use mathlib.Core.Bool.{Bool, true, false, _||_}
 use mathlib.Core.List.{List, [], _∷_}
 use native.Mathlib.Omega.{arith}
 use lib.Dec.{eqb}
+use Rattle.laws.specs.Answering.{Refusal, _when_, Applies}
 use Rattle.laws.proofs.Deciding.{clash}
 use Rattle.laws.proofs.Testing.{eqb-true, or-left}
 use Rattle.seating.specs.Running.{Running}
@@ -13,7 +14,7 @@ use Rattle.seating.proofs.Ranks.{keeps-same}
 use Rattle.dispatcher.specs.Limits.{none}
 use Rattle.dispatcher.specs.Slots.{seatAt, Ready, Shaped}
 use Rattle.dispatcher.specs.Sound.{Sound}
-use Rattle.dispatcher.specs.Answers.{numberOf, Refusal, _when_, Applies}
+use Rattle.dispatcher.specs.Answers.{numberOf}
 use Rattle.dispatcher.specs.Fresh.{Freshly}
 use Rattle.dispatcher.specs.Refusals.{IsUnsound}
 use Rattle.dispatcher.specs.declared.Dispatcher.{Dispatcher}

@@ -2,8 +2,8 @@
 use Prim.Native.Nat.{ℕ, _≤_}
 use mathlib.Core.List.{List}
 use Rattle.laws.specs.Lists.{All}
+use Rattle.laws.specs.Answering.{Refusal}
 use Rattle.dispatcher.specs.Limits.{greatestPriority}
-use Rattle.dispatcher.specs.Answers.{Refusal}
 use Rattle.dispatcher.specs.declared.TaskRecord.{TaskRecord}
 use Rattle.dispatcher.specs.declared.Dispatcher.{Dispatcher}
 use Rattle.dispatcher.specs.declared.Outcome.{Outcome}

@@ -6,10 +6,10 @@ use mathlib.Core.List.{List, [], _∷_, _++_}
 use native.Mathlib.Omega.{arith}
 use native.Mathlib.Decide.{ℕ-discrete, decLe}
 use lib.ListN.{length, take, drop, length-append}
+use Rattle.laws.proofs.Answering.{none-applies}
 use Rattle.dispatcher.specs.Answers.{numberOf}
 use Rattle.dispatcher.specs.declared.Dispatcher.{Dispatcher}
 use Rattle.dispatcher.specs.declared.Outcome.{Outcome}
-use Rattle.dispatcher.proofs.Promises.{none-applies}
 use Rattle.dispatcher.proofs.Stable.{by-dec, not-unsound}
 use Rattle.lines.specs.Text.{newline, space, joined, fieldsOf, seatsText, lineText}
 use Rattle.lines.specs.Line.{textOf}

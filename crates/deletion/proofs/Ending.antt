@@ -4,16 +4,18 @@ use mathlib.Core.Path.{_≡_, refl, sym, ap, _∙_}
 use mathlib.Core.Logic.{_≢_, inl, inr}
 use mathlib.Core.List.{[], _∷_}
 use native.Mathlib.Omega.{arith}
+use Rattle.laws.specs.Answering.{_when_, Applies, Answers}
+use Rattle.laws.proofs.Answering.{answers-left, answers-past}
 use Rattle.dispatcher.specs.Limits.{slotLimit}
 use Rattle.dispatcher.specs.Slots.{noTask, Ready}
-use Rattle.dispatcher.specs.Answers.{numberOf, _when_, Applies, Answers}
+use Rattle.dispatcher.specs.Answers.{numberOf}
 use Rattle.dispatcher.specs.Refusals.{IsNotReady}
 use Rattle.dispatcher.specs.Reports.{stillOf}
 use Rattle.dispatcher.specs.declared.Answer.the-variants.{Done}
 use Rattle.dispatcher.specs.declared.Report.{Report}
 use Rattle.dispatcher.specs.declared.Dispatcher.{Dispatcher}
 use Rattle.dispatcher.specs.declared.Outcome.{Outcome}
-use Rattle.dispatcher.proofs.Promises.{slot-below, answers-left, answers-past}
+use Rattle.dispatcher.proofs.Promises.{slot-below}
 use Rattle.tasks.specs.Table.{Settles}
 use Rattle.tasks.specs.Named.{namedRefusals}
 use Rattle.tasks.proofs.Naming.{named-small}

@@ -5,15 +5,17 @@ use mathlib.Core.Logic.{_⊎_, inl, inr}
 use mathlib.Core.List.{List}
 use native.Mathlib.Omega.{arith}
 use lib.ListN.{getD}
+use Rattle.laws.specs.Answering.{Applies}
+use Rattle.laws.proofs.Answering.{done-where-none}
 use Rattle.dispatcher.specs.Limits.{slotLimit}
 use Rattle.dispatcher.specs.Slots.{noTask, taskAt, Used, Ready, Shaped}
 use Rattle.dispatcher.specs.Sound.{Sound}
-use Rattle.dispatcher.specs.Answers.{numberOf, Applies}
+use Rattle.dispatcher.specs.Answers.{numberOf}
 use Rattle.dispatcher.specs.declared.Task.{Task}
 use Rattle.dispatcher.specs.declared.Report.{Report}
 use Rattle.dispatcher.specs.declared.Dispatcher.{Dispatcher}
 use Rattle.dispatcher.specs.declared.Outcome.{Outcome}
-use Rattle.dispatcher.proofs.Promises.{done-where-none, slot-below}
+use Rattle.dispatcher.proofs.Promises.{slot-below}
 use Rattle.dispatcher.proofs.Ready.{ready-used}
 use Rattle.dispatcher.proofs.Stable.{ready-or-not}
 use Rattle.tasks.specs.Table.{withTask}

@@ -9,6 +9,7 @@ use native.Mathlib.Omega.{arith}
 use lib.ListN.{length-replicate, getD-replicate}
 use Rattle.laws.specs.Decides.{Decides}
 use Rattle.laws.proofs.Deciding.{cases, decides-not}
+use Rattle.laws.proofs.Answering.{none-applies}
 use Rattle.dispatcher.specs.Limits.{coreLimit, slotLimit, none, LegalCount}
 use Rattle.dispatcher.specs.Slots.{noTask, Shaped}
 use Rattle.dispatcher.specs.Sound.{Sound}
@@ -19,7 +20,6 @@ use Rattle.dispatcher.specs.declared.Answer.the-variants.{Done, CoreCoun
 use Rattle.dispatcher.specs.declared.Outcome.{Outcome}
 use Rattle.dispatcher.proofs.Judging.{test, firstOf, judged}
 use Rattle.dispatcher.proofs.Testing.{countTest, count-decides}
-use Rattle.dispatcher.proofs.Promises.{none-applies}
 
 abbrev pub freshOf : Bool → ℕ → Outcome
 freshOf true n = record { report = stillOf Done; dispatcher = emptyOf n }

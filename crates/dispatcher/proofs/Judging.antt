@@ -6,8 +6,9 @@ use mathlib.Core.Bool.{Bool, true, false, cond}
 use mathlib.Core.List.{List, [], _∷_}
 use native.Mathlib.Omega.{arith}
 use Rattle.laws.specs.Decides.{Decides}
+use Rattle.laws.specs.Answering.{Refusal, Applies, Answers}
 use Rattle.laws.proofs.Deciding.{cases}
-use Rattle.dispatcher.specs.Answers.{numberOf, Refusal, Applies, Answers}
+use Rattle.dispatcher.specs.Answers.{numberOf}
 use Rattle.dispatcher.specs.declared.Answer.{Answer}
 use Rattle.dispatcher.specs.declared.Answer.the-variants.{Done}
 

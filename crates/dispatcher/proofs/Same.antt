@@ -8,7 +8,9 @@ use native.Mathlib.Decide.{ℕ-discrete}
 use native.Mathlib.Omega.{arith}
 use lib.Dec.{eqb}
 use Rattle.laws.specs.Lists.{All}
-use Rattle.dispatcher.specs.Answers.{numberOf, unusedNumbers, Refusal, Answers}
+use Rattle.laws.specs.Answering.{Refusal, Answers}
+use Rattle.laws.proofs.Answering.{answers-same}
+use Rattle.dispatcher.specs.Answers.{numberOf, unusedNumbers}
 use Rattle.dispatcher.specs.Reports.{stillOf}
 use Rattle.dispatcher.specs.Promise.{Promised}
 use Rattle.dispatcher.specs.Fresh.{Freshly}
@@ -54,15 +56,6 @@ unfolding answerOf
 unused-never a = ((λ e. let k = ap numberOf (sym (answer-back a) ∙ ap answerOf e) in omega (arith, e, k)), tt)
 
 -- ---- a list of refusals allows one answer
-
-pub answers-same : {rs : List Refusal} {m n : ℕ} → Answers rs m → Answers rs n → m ≡ n
-answers-same {m} {n} a b = go (ℕ-discrete m 0) (ℕ-discrete n 0)
-  where
-    go : Dec (m ≡ 0) → Dec (n ≡ 0) → m ≡ n
-    go (yes p) (yes q) = p ∙ sym q
-    go (yes p) (no q) = let l = a .lowest n (b .listed q) in omega (arith, l .0)
-    go (no p) (yes q) = let l = b .lowest m (a .listed p) in omega (arith, l .0)
-    go (no p) (no q) = let l = a .lowest n (b .listed q) in let k = b .lowest m (a .listed p) in omega (arith, l .1, k .1)
 
 answer-same : {rs : List Refusal} {a b : Answer} → Answers rs (numberOf a) → Answers rs (numberOf b) → a ≡ b
 answer-same p q = number-same (answers-same p q)

@@ -5,9 +5,10 @@ use mathlib.Core.Path.{_≡_}
 use mathlib.Core.Logic.{_≢_}
 use mathlib.Core.List.{List, [], _∷_}
 use lib.ListN.{replicate}
+use Rattle.laws.specs.Answering.{Refusal, _when_, Answers}
 use Rattle.dispatcher.specs.Limits.{coreLimit, slotLimit, none}
 use Rattle.dispatcher.specs.Slots.{noTask}
-use Rattle.dispatcher.specs.Answers.{numberOf, Refusal, _when_, Answers}
+use Rattle.dispatcher.specs.Answers.{numberOf}
 use Rattle.dispatcher.specs.Refusals.{IsBadCount}
 use Rattle.dispatcher.specs.Reports.{stillOf}
 use Rattle.dispatcher.specs.declared.Dispatcher.{Dispatcher}

@@ -7,8 +7,8 @@ use native.Mathlib.Decide.{decLt}
 use native.Mathlib.Omega.{arith}
 use lib.ListN.{length, take}
 use lib.Seq.{take-all, getD-take, length-take-le}
+use Rattle.laws.specs.Answering.{Applies}
 use Rattle.dispatcher.specs.Limits.{eventLimit}
-use Rattle.dispatcher.specs.Answers.{Applies}
 use Rattle.files.specs.Layout.{byte, recordCount, countPlace, eventCount, endPlace, largestFile}
 use Rattle.files.specs.Faults.{WellFormed, faultsAt, FirstFault}
 use Rattle.files.specs.Reading.{Reads}

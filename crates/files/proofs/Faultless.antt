@@ -6,8 +6,8 @@ use mathlib.Core.List.{List}
 use native.Mathlib.Decide.{decLe, decLt}
 use native.Mathlib.Omega.{arith}
 use lib.ListN.{length}
+use Rattle.laws.specs.Answering.{Applies}
 use Rattle.dispatcher.specs.Limits.{eventLimit}
-use Rattle.dispatcher.specs.Answers.{Applies}
 use Rattle.files.specs.Layout.{coreCount, recordCount, eventCount, eventPlace, endPlace}
 use Rattle.files.specs.Faults.{WellFormed, faultsAt}
 use Rattle.files.specs.Reading.{Reads}

@@ -8,7 +8,8 @@ use native.Mathlib.Omega.{arith}
 use lib.Dec.{eqb, ltb, leb}
 use lib.ListN.{length}
 use borrow.Author.Tests.{eq-eqb, ne-eqb, lt-ltb, le-ltb, le-leb, lt-leb}
-use Rattle.dispatcher.specs.Answers.{numberOf, Applies}
+use Rattle.laws.specs.Answering.{Applies}
+use Rattle.dispatcher.specs.Answers.{numberOf}
 use Rattle.dispatcher.proofs.Same.{number-same}
 use Rattle.files.specs.Layout.{countPlace, endPlace}
 use Rattle.files.specs.Faults.{WellFormed, faultsAt, FirstFault}

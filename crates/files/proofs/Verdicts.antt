@@ -6,7 +6,7 @@ use mathlib.Core.List.{List}
 use native.Mathlib.Decide.{decLt}
 use native.Mathlib.Omega.{arith}
 use lib.ListN.{length}
-use Rattle.dispatcher.specs.Answers.{Applies}
+use Rattle.laws.specs.Answering.{Applies}
 use Rattle.dispatcher.specs.Limits.{eventLimit, LegalCount}
 use Rattle.dispatcher.specs.Refusals.{IsBadCount}
 use Rattle.files.specs.Layout.{coreCount, recordPlace, countPlace, eventCount, eventPlace, endPlace}

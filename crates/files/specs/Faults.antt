@@ -3,8 +3,8 @@ use Prim.Native.Nat.{ℕ, _+_, _≤_, _<_}
 use mathlib.Core.Path.{_≡_}
 use mathlib.Core.List.{List, [], _∷_}
 use lib.ListN.{length}
+use Rattle.laws.specs.Answering.{Refusal, _when_, Applies}
 use Rattle.dispatcher.specs.Limits.{eventLimit, LegalCount}
-use Rattle.dispatcher.specs.Answers.{Refusal, _when_, Applies}
 use Rattle.dispatcher.specs.Refusals.{IsBadCount}
 use Rattle.files.specs.Layout.{byte, coreCount, countPlace, eventCount, eventPlace, endPlace}
 

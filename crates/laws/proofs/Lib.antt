@@ -4,3 +4,4 @@ pub mod Lists
 pub mod Lowering
 pub mod Counting
 pub mod Picking
+pub mod Answering

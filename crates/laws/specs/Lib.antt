@@ -3,3 +3,4 @@ pub mod Lowest
 pub mod Lists
 pub mod Counting
 pub mod Pick
+pub mod Answering

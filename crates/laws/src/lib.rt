@@ -1,1 +1,1 @@
-// What every layer cites of tests, lists and numbers: definitions and laws, and no code.
+// What every layer cites of tests, lists, numbers and tables of refusals: definitions and laws, and no code.

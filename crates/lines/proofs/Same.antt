@@ -4,8 +4,10 @@ use mathlib.Core.Path.{_≡_, sym, _∙_}
 use mathlib.Core.Logic.{_≢_}
 use mathlib.Core.List.{List}
 use native.Mathlib.Decide.{ℕ-discrete}
-use Rattle.dispatcher.specs.Answers.{numberOf, Refusal}
-use Rattle.dispatcher.proofs.Same.{number-same, answers-same}
+use Rattle.laws.specs.Answering.{Refusal}
+use Rattle.laws.proofs.Answering.{answers-same}
+use Rattle.dispatcher.specs.Answers.{numberOf}
+use Rattle.dispatcher.proofs.Same.{number-same}
 use Rattle.lines.specs.declared.Written.{Written}
 use Rattle.lines.specs.Line.{Stands}
 

@@ -6,12 +6,13 @@ use mathlib.Core.List.{List, [], _∷_, _++_}
 use native.Mathlib.Decide.{ℕ-discrete}
 use native.Mathlib.Omega.{arith}
 use lib.ListN.{length, drop, length-append}
-use Rattle.dispatcher.specs.Answers.{numberOf, Refusal, _when_, Applies, Answers}
+use Rattle.laws.specs.Answering.{Refusal, _when_, Applies, Answers}
+use Rattle.laws.proofs.Answering.{answers-first, answers-then, answers-one, answers-none}
+use Rattle.dispatcher.specs.Answers.{numberOf}
 use Rattle.dispatcher.specs.Refusals.{IsUnsound}
 use Rattle.dispatcher.specs.Sound.{Sound}
 use Rattle.dispatcher.specs.declared.Dispatcher.{Dispatcher}
 use Rattle.dispatcher.specs.declared.Answer.the-variants.{NotSound, BadKind}
-use Rattle.dispatcher.proofs.Promises.{answers-first, answers-then, answers-one, answers-none}
 use Rattle.lines.specs.declared.Line.{Line}
 use Rattle.lines.specs.declared.Written.{Written}
 use Rattle.lines.specs.Line.{IsLineKind, IsLong, textOf, Stands, Writes}

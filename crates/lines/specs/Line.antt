@@ -4,7 +4,8 @@ use mathlib.Core.Path.{_≡_}
 use mathlib.Core.Logic.{_≢_}
 use mathlib.Core.List.{List, [], _∷_, _++_}
 use lib.ListN.{length, take, drop}
-use Rattle.dispatcher.specs.Answers.{numberOf, Refusal, _when_, Answers}
+use Rattle.laws.specs.Answering.{Refusal, _when_, Answers}
+use Rattle.dispatcher.specs.Answers.{numberOf}
 use Rattle.dispatcher.specs.Refusals.{IsUnsound}
 use Rattle.dispatcher.specs.declared.Dispatcher.{Dispatcher}
 use Rattle.lines.specs.declared.Line.{Line}

@@ -2,9 +2,9 @@
 use Prim.Native.Nat.{ℕ}
 use mathlib.Core.Path.{_≡_, sym, ap, _∙_}
 use mathlib.Core.List.{List}
+use Rattle.laws.specs.Answering.{Refusal}
 use Rattle.dispatcher.specs.Reports.{plainOf}
 use Rattle.dispatcher.specs.Fresh.{Freshly}
-use Rattle.dispatcher.specs.Answers.{Refusal}
 use Rattle.dispatcher.specs.declared.Dispatcher.{Dispatcher}
 use Rattle.dispatcher.specs.declared.TaskRecord.{TaskRecord}
 use Rattle.dispatcher.specs.declared.Outcome.{Outcome}

@@ -2,7 +2,7 @@
 // Each does what the function by value does, and tells it in plain numbers.
 ghost use mathlib.Core.List.{[], _∷_};
 ghost use mathlib.Core.Path.{_≡_};
-ghost use Rattle.dispatcher.specs.Answers.{_when_, Answers};
+ghost use Rattle.laws.specs.Answering.{_when_, Answers};
 ghost use Rattle.dispatcher.specs.Refusals.{IsUnsound};
 ghost use Rattle.dispatcher.specs.Fresh.{Freshly};
 ghost use Rattle.tasks.specs.Create.{Creates};

@@ -7,6 +7,8 @@ use native.Mathlib.Decide.{ℕ-discrete}
 use native.Mathlib.Omega.{arith}
 use lib.ListN.{set}
 use lib.Seq.{getD-set-other}
+use Rattle.laws.specs.Answering.{Refusal}
+use Rattle.laws.proofs.Answering.{none-applies}
 use Rattle.seating.proofs.Same.{runs-dec, runs-ready}
 use Rattle.seating.proofs.Keep.{Joins}
 use Rattle.seating.proofs.Ranks.{Ranked, reached-below}
@@ -15,12 +17,12 @@ use Rattle.seating.proofs.Legality.{arrives-legal, arrives-beyond, fills-legal,
 use Rattle.dispatcher.specs.Limits.{coreLimit, slotLimit, none}
 use Rattle.dispatcher.specs.Slots.{taskAt, seatAt, Used, Ready, Shaped}
 use Rattle.dispatcher.specs.Sound.{Sound}
-use Rattle.dispatcher.specs.Answers.{numberOf, Refusal}
+use Rattle.dispatcher.specs.Answers.{numberOf}
 use Rattle.dispatcher.specs.Promise.{Promised}
 use Rattle.dispatcher.specs.declared.Report.{Report}
 use Rattle.dispatcher.specs.declared.Dispatcher.{Dispatcher}
 use Rattle.dispatcher.specs.declared.Outcome.{Outcome}
-use Rattle.dispatcher.proofs.Promises.{none-applies, slot-below}
+use Rattle.dispatcher.proofs.Promises.{slot-below}
 use Rattle.order.specs.ComesBefore.{ComesBefore, priorityOf}
 use Rattle.order.specs.Changes.{joinedOf, leftOf}
 use Rattle.order.proofs.Joining.{joined-shaped, joined-new, joined-old, joined-only, joined-before, joined-sound, joined-last}

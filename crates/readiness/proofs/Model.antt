@@ -9,14 +9,16 @@ use native.Mathlib.Omega.{arith}
 use lib.Dec.{eqb}
 use borrow.Author.Tests.{eq-eqb, ne-eqb, ltb-true}
 use Rattle.laws.specs.Decides.{Decides}
+use Rattle.laws.specs.Answering.{Refusal, _when_, Answers}
 use Rattle.laws.proofs.Deciding.{cases, decides-not}
+use Rattle.laws.proofs.Answering.{none-applies}
 use Rattle.seating.proofs.Take.{seats}
 use Rattle.seating.proofs.Arriving.{Step, arriveOf, arriveOf-arrives}
 use Rattle.seating.proofs.Filling.{fillOf, fillOf-fills}
 use Rattle.dispatcher.specs.Limits.{slotLimit, none}
 use Rattle.dispatcher.specs.Slots.{taskAt, seatAt, Used, Ready, Shaped}
 use Rattle.dispatcher.specs.Sound.{Sound}
-use Rattle.dispatcher.specs.Answers.{numberOf, Refusal, _when_, Answers}
+use Rattle.dispatcher.specs.Answers.{numberOf}
 use Rattle.dispatcher.specs.Refusals.{IsUnsound}
 use Rattle.dispatcher.specs.Reports.{stillOf}
 use Rattle.dispatcher.specs.Promise.{Promised}
@@ -26,7 +28,7 @@ use Rattle.dispatcher.specs.declared.Dispatcher.{Dispatcher}
 use Rattle.dispatcher.specs.declared.Outcome.{Outcome}
 use Rattle.dispatcher.proofs.Judging.{test, firstOf}
 use Rattle.dispatcher.proofs.Testing.{readyTest, ready-decides}
-use Rattle.dispatcher.proofs.Promises.{none-applies, slot-below}
+use Rattle.dispatcher.proofs.Promises.{slot-below}
 use Rattle.order.specs.ComesBefore.{ComesBefore}
 use Rattle.order.specs.Changes.{joinedOf, leftOf}
 use Rattle.order.proofs.Joining.{joined-shaped, joined-sound, joined-new}

@@ -5,15 +5,16 @@ use mathlib.Core.Logic.{_≢_, inl, inr}
 use mathlib.Core.List.{List}
 use native.Mathlib.Omega.{arith}
 use lib.ListN.{length, set}
+use Rattle.laws.specs.Answering.{Answers}
+use Rattle.laws.proofs.Answering.{none-applies}
 use Rattle.dispatcher.specs.Limits.{coreLimit, none}
 use Rattle.dispatcher.specs.Slots.{taskAt, seatAt, Used, Ready, Shaped}
 use Rattle.dispatcher.specs.Sound.{Sound}
-use Rattle.dispatcher.specs.Answers.{Answers}
 use Rattle.dispatcher.specs.Reports.{stillOf}
 use Rattle.dispatcher.specs.declared.Answer.the-variants.{Done}
 use Rattle.dispatcher.specs.declared.Dispatcher.{Dispatcher}
 use Rattle.dispatcher.specs.declared.Outcome.{Outcome}
-use Rattle.dispatcher.proofs.Promises.{none-applies, slot-below, accepted}
+use Rattle.dispatcher.proofs.Promises.{slot-below, accepted}
 use Rattle.dispatcher.proofs.Stable.{not-unsound, not-unready}
 use Rattle.order.specs.Changes.{joinOrder, leaveOrder}
 use Rattle.order.proofs.Joining.{joined-new, joined-sound}

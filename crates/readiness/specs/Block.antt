@@ -3,9 +3,9 @@ use Prim.Native.Nat.{ℕ, _<_}
 use mathlib.Core.Path.{_≡_}
 use mathlib.Core.List.{List, [], _∷_}
 use lib.ListN.{length, set}
+use Rattle.laws.specs.Answering.{Refusal, _when_}
 use Rattle.dispatcher.specs.Limits.{none}
 use Rattle.dispatcher.specs.Slots.{seatAt}
-use Rattle.dispatcher.specs.Answers.{Refusal, _when_}
 use Rattle.dispatcher.specs.Refusals.{IsUnsound, IsAbove, IsEmpty, IsNotReady}
 use Rattle.dispatcher.specs.Reports.{stillOf}
 use Rattle.dispatcher.specs.Promise.{Promised}

@@ -3,8 +3,8 @@ use Prim.Native.Nat.{ℕ}
 use mathlib.Core.Path.{_≡_}
 use mathlib.Core.List.{List, [], _∷_}
 use lib.ListN.{length}
+use Rattle.laws.specs.Answering.{Refusal, _when_}
 use Rattle.dispatcher.specs.Slots.{seatAt}
-use Rattle.dispatcher.specs.Answers.{Refusal, _when_}
 use Rattle.dispatcher.specs.Refusals.{IsUnsound, IsAbove, IsEmpty, IsAlreadyReady}
 use Rattle.dispatcher.specs.Promise.{Promised}
 use Rattle.dispatcher.specs.declared.Dispatcher.{Dispatcher}

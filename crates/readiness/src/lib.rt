@@ -1,6 +1,7 @@
 // Wake and block by value: a task becomes ready and seeks a core, or is no longer ready and its core seeks another task.
 ghost use mathlib.Core.Path.{_≡_};
-ghost use Rattle.dispatcher.specs.Answers.{numberOf, Answers};
+ghost use Rattle.laws.specs.Answering.{Answers};
+ghost use Rattle.dispatcher.specs.Answers.{numberOf};
 ghost use Rattle.readiness.specs.Wake.{wakeRefusals, Wakes};
 ghost use Rattle.readiness.specs.Block.{blockRefusals, Blocks};
 ghost use Rattle.readiness.specs.Seats.{CoreOf, reportOf};

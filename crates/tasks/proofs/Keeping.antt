@@ -6,6 +6,7 @@ use native.Mathlib.Decide.{ℕ-discrete}
 use native.Mathlib.Omega.{arith}
 use lib.ListN.{length-set}
 use lib.Seq.{getD-set-same, getD-set-other}
+use Rattle.laws.proofs.Answering.{none-applies}
 use Rattle.masks.proofs.Bits.{legal-mask}
 use Rattle.dispatcher.specs.Limits.{slotLimit, greatestPriority}
 use Rattle.dispatcher.specs.Slots.{noTask, taskAt, orderAt, seatAt, Used, Ready, Shaped}
@@ -14,7 +15,7 @@ use Rattle.dispatcher.specs.Answers.{numberOf}
 use Rattle.dispatcher.specs.declared.Task.{Task}
 use Rattle.dispatcher.specs.declared.Dispatcher.{Dispatcher}
 use Rattle.dispatcher.specs.declared.Outcome.{Outcome}
-use Rattle.dispatcher.proofs.Promises.{none-applies, slot-below}
+use Rattle.dispatcher.proofs.Promises.{slot-below}
 use Rattle.tasks.specs.Table.{withTask}
 use Rattle.tasks.specs.Create.{Creates}
 use Rattle.dispatcher.proofs.Ready.{ready-used, ready-alike}

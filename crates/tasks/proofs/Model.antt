@@ -7,12 +7,13 @@ use native.Mathlib.Omega.{arith}
 use lib.Dec.{eqb, leb}
 use borrow.Author.Tests.{eq-eqb, ne-eqb}
 use Rattle.laws.specs.Decides.{Decides}
+use Rattle.laws.specs.Answering.{_when_, Answers}
 use Rattle.laws.proofs.Deciding.{decides-not, decides-eq, decides-le}
 use Rattle.masks.proofs.Bits.{names-test}
 use Rattle.dispatcher.specs.Limits.{slotLimit}
 use Rattle.dispatcher.specs.Slots.{taskAt}
 use Rattle.dispatcher.specs.Sound.{Sound}
-use Rattle.dispatcher.specs.Answers.{numberOf, _when_, Answers}
+use Rattle.dispatcher.specs.Answers.{numberOf}
 use Rattle.dispatcher.specs.Reports.{stillOf}
 use Rattle.dispatcher.specs.declared.Answer.{Answer}
 use Rattle.dispatcher.specs.declared.Answer.the-variants.{NotSound, SlotAbove, SlotInUse, SlotEmpty, PriorityZero, MaskEmpty, MissingCore}

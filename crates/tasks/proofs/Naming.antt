@@ -4,9 +4,9 @@ use mathlib.Core.Path.{_≡_}
 use mathlib.Core.Logic.{_≢_, inl, inr}
 use mathlib.Core.List.{[], _∷_, _++_}
 use native.Mathlib.Omega.{arith}
-use Rattle.dispatcher.specs.Answers.{_when_, Applies, Answers}
+use Rattle.laws.specs.Answering.{_when_, Applies, Answers}
+use Rattle.laws.proofs.Answering.{answers-first, answers-then}
 use Rattle.dispatcher.specs.declared.Dispatcher.{Dispatcher}
-use Rattle.dispatcher.proofs.Promises.{answers-first, answers-then}
 use Rattle.tasks.specs.Named.{namedRefusals}
 
 pub named-small : {d : Dispatcher} {slot n : ℕ} → Applies (namedRefusals d slot) n → n < 6

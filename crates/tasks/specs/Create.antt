@@ -1,7 +1,7 @@
 -- Document 01: create fills the named slot, not ready.
 use Prim.Native.Nat.{ℕ}
 use mathlib.Core.List.{List, [], _∷_}
-use Rattle.dispatcher.specs.Answers.{Refusal, _when_}
+use Rattle.laws.specs.Answering.{Refusal, _when_}
 use Rattle.dispatcher.specs.Refusals.{IsUnsound, IsAbove, IsInUse, IsPriorityZero, IsMaskEmpty, IsMissingCore}
 use Rattle.dispatcher.specs.Promise.{Promised}
 use Rattle.dispatcher.specs.declared.Dispatcher.{Dispatcher}

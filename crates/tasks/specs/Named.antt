@@ -1,7 +1,7 @@
 -- The refusals of every call on the task in a slot: dispatcher not sound, slot above 127, slot empty.
 use Prim.Native.Nat.{ℕ}
 use mathlib.Core.List.{List, [], _∷_}
-use Rattle.dispatcher.specs.Answers.{Refusal, _when_}
+use Rattle.laws.specs.Answering.{Refusal, _when_}
 use Rattle.dispatcher.specs.Refusals.{IsUnsound, IsAbove, IsEmpty}
 use Rattle.dispatcher.specs.declared.Dispatcher.{Dispatcher}
 

@@ -1,8 +1,9 @@
 // Create by value: a slot is filled, not ready. And what every call on the task in a slot refuses first.
 ghost use mathlib.Core.Path.{_≡_};
 ghost use Prim.Native.Nat.{_<_};
+ghost use Rattle.laws.specs.Answering.{Answers};
 ghost use Rattle.dispatcher.specs.Limits.{slotLimit};
-ghost use Rattle.dispatcher.specs.Answers.{numberOf, Answers};
+ghost use Rattle.dispatcher.specs.Answers.{numberOf};
 ghost use Rattle.tasks.specs.Table.{Settles};
 ghost use Rattle.tasks.specs.Named.{namedRefusals};
 ghost use Rattle.tasks.specs.Create.{entryRefusals, createRefusals, Creates};

@@ -3,7 +3,7 @@ use mathlib.Core.Path.{refl}
 use native.Mathlib.Omega.{arith}
 use borrow.Author.Tests.{not-true, not-false}
 use borrow.Author.Needs.{needs}
-use Rattle.dispatcher.proofs.Promises.{answers-one, answers-none}
+use Rattle.laws.proofs.Answering.{answers-one, answers-none}
 use Rattle.boot.proofs.start.Statement.{statement}
 use Rattle.boot.proofs.start.Tie as tie
 

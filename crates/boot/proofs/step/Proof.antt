@@ -2,8 +2,9 @@
 use mathlib.Core.Path.{refl, sym, _∙_}
 use mathlib.Core.List.{[], _∷_}
 use borrow.Author.Needs.{needs}
-use Rattle.dispatcher.specs.Answers.{_when_}
-use Rattle.dispatcher.proofs.Promises.{slot-below, answers-then, answers-none}
+use Rattle.laws.specs.Answering.{_when_}
+use Rattle.laws.proofs.Answering.{answers-then, answers-none}
+use Rattle.dispatcher.proofs.Promises.{slot-below}
 use Rattle.tasks.specs.Create.{entryRefusals}
 use Rattle.boot.proofs.step.Statement.{statement}
 use Rattle.boot.proofs.step.Tie as tie

@@ -7,7 +7,7 @@ use lib.ListN.{length, take}
 use lib.Seq.{length-take-le}
 use denote.Ref.{now}
 use borrow.Author.Needs.{needs}
-use Rattle.dispatcher.proofs.Promises.{answers-one, answers-none}
+use Rattle.laws.proofs.Answering.{answers-one, answers-none}
 use Rattle.lines.proofs.Standing.{stands-refused, stands-done}
 use Rattle.lines.proofs.hand_over.Statement.{statement}
 use Rattle.lines.proofs.hand_over.Tie as tie

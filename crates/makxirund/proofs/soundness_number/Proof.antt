@@ -2,7 +2,7 @@
 use native.Mathlib.Omega.{arith}
 use borrow.Author.Tests.{not-true, not-false}
 use borrow.Author.Needs.{needs}
-use Rattle.dispatcher.proofs.Promises.{answers-one, answers-none}
+use Rattle.laws.proofs.Answering.{answers-one, answers-none}
 use Rattle.makxirund.proofs.soundness_number.Statement.{statement}
 use Rattle.makxirund.proofs.soundness_number.Tie as tie
 

@@ -3,8 +3,8 @@ use mathlib.Core.Path.{refl, sym, _∙_}
 use native.Mathlib.Omega.{arith}
 use lib.ListN.{length-map}
 use borrow.Author.Needs.{needs}
+use Rattle.laws.specs.Answering.{Answers}
 use Rattle.dispatcher.specs.Slots.{Shaped}
-use Rattle.dispatcher.specs.Answers.{Answers}
 use Rattle.dispatcher.proofs.Promises.{refused}
 use Rattle.readiness.specs.Block.{blockRefusals}
 use Rattle.readiness.proofs.Turning.{core-below-limit, core-idle, waited-blocks, refilled-blocks}

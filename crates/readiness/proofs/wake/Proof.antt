@@ -2,8 +2,8 @@
 use mathlib.Core.Path.{sym, _∙_}
 use lib.ListN.{length-map}
 use borrow.Author.Needs.{needs}
+use Rattle.laws.specs.Answering.{Answers}
 use Rattle.dispatcher.specs.Slots.{Shaped}
-use Rattle.dispatcher.specs.Answers.{Answers}
 use Rattle.dispatcher.proofs.Promises.{refused}
 use Rattle.readiness.specs.Wake.{wakeRefusals}
 use Rattle.readiness.proofs.Turning.{joined-arriving, arrived-wakes}

@@ -2,7 +2,7 @@
 use mathlib.Core.Path.{sym, _∙_}
 use native.Mathlib.Omega.{arith}
 use borrow.Author.Needs.{needs}
-use Rattle.dispatcher.proofs.Promises.{answers-one, answers-none}
+use Rattle.laws.proofs.Answering.{answers-one, answers-none}
 use Rattle.tasks.proofs.Naming.{named-refused, named-then}
 use Rattle.readiness.proofs.wake_answer.Statement.{statement}
 use Rattle.readiness.proofs.wake_answer.Tie as tie

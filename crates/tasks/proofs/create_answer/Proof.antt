@@ -4,9 +4,9 @@ use mathlib.Core.Bool.{false}
 use mathlib.Core.List.{[], _∷_}
 use borrow.Author.Tests.{not-true, not-false}
 use borrow.Author.Needs.{needs}
-use Rattle.dispatcher.specs.Answers.{_when_}
+use Rattle.laws.specs.Answering.{_when_}
+use Rattle.laws.proofs.Answering.{answers-then, answers-none}
 use Rattle.dispatcher.specs.Refusals.{IsUnsound}
-use Rattle.dispatcher.proofs.Promises.{answers-then, answers-none}
 use Rattle.dispatcher.proofs.Judging.{firstOf}
 use Rattle.tasks.specs.Create.{entryRefusals}
 use Rattle.tasks.proofs.Model.{create-answers}
