@@ -7,11 +7,12 @@ use native.Mathlib.Omega.{arith}
 use native.Mathlib.Decide.{ℕ-discrete, decLe}
 use lib.ListN.{length, take, drop, length-append}
 use Rattle.laws.proofs.Answering.{none-applies}
+use Rattle.texts.specs.Joined.{newline, space, joined}
 use Rattle.dispatcher.specs.Answers.{numberOf}
 use Rattle.dispatcher.specs.declared.Dispatcher.{Dispatcher}
 use Rattle.dispatcher.specs.declared.Outcome.{Outcome}
 use Rattle.dispatcher.proofs.Stable.{by-dec, not-unsound}
-use Rattle.lines.specs.Text.{newline, space, joined, fieldsOf, seatsText, lineText}
+use Rattle.lines.specs.Text.{fieldsOf, seatsText, lineText}
 use Rattle.lines.specs.Line.{textOf}
 use Rattle.lines.specs.declared.Line.{Line}
 use Rattle.days.specs.declared.Stepped.{Stepped}

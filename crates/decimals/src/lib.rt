@@ -3,7 +3,7 @@ ghost use Prim.Native.Nat.{_+_, _≤_, _<_};
 ghost use mathlib.Core.Path.{_≡_};
 ghost use lib.ListN.{length};
 ghost use Rattle.decimals.specs.Decimal.{digit as Decimal·digit, decimal};
-ghost use Rattle.decimals.specs.Put.{Puts};
+ghost use Rattle.texts.specs.Put.{Puts};
 
 fn digit(d: u64) -> u8
     requires { ⌜ d < 10 ⌝ }

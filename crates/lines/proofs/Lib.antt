@@ -4,5 +4,4 @@ pub mod Parts
 pub mod Longest
 pub mod Standing
 pub mod Same
-pub mod Joining
 pub mod Distinct

@@ -7,13 +7,14 @@ use native.Mathlib.Omega.{arith}
 use lib.ListN.{length, take, getD, length-append}
 use lib.Seq.{length-take-le, getD-take}
 use Rattle.laws.proofs.Lists.{getD-any}
+use Rattle.texts.specs.Joined.{space, comma, eachAfter}
 use Rattle.decimals.proofs.Spelling.{decimal-length}
 use Rattle.dispatcher.specs.Limits.{coreLimit, none}
 use Rattle.dispatcher.specs.Slots.{seatAt}
 use Rattle.dispatcher.specs.Sound.{Sound}
 use Rattle.dispatcher.specs.declared.Dispatcher.{Dispatcher}
 use Rattle.lines.specs.declared.Line.{Line}
-use Rattle.lines.specs.Text.{space, comma, eachAfter, slotText, seatsText, faultText}
+use Rattle.lines.specs.Text.{slotText, seatsText, faultText}
 use Rattle.lines.specs.Line.{textOf}
 use Rattle.lines.proofs.Parts.{slot-dash, slot-number, line-length, event-length, report-length, fault-length}
 

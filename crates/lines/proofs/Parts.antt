@@ -6,11 +6,12 @@ use mathlib.Core.List.{List, [], _∷_, _++_, append-assoc, append-nil}
 use native.Mathlib.Omega.{arith}
 use borrow.Author.Tests.{eq-eqb, ne-eqb}
 use lib.ListN.{length, length-append}
+use Rattle.texts.specs.Joined.{space, newline, dash, eachAfter, joined}
 use Rattle.decimals.specs.Decimal.{decimal}
 use Rattle.dispatcher.specs.Limits.{none}
 use Rattle.dispatcher.specs.declared.PlainReport.{PlainReport}
 use Rattle.lines.specs.declared.Line.{Line}
-use Rattle.lines.specs.Text.{space, newline, dash, eachAfter, joined, eventFields, reportFields, slotText, seatsText, lineText, refusedWord, atWord, faultText}
+use Rattle.lines.specs.Text.{eventFields, reportFields, slotText, seatsText, lineText, refusedWord, atWord, faultText}
 
 pub slot-dash : (slot : ℕ) → slot ≡ none → slotText slot ≡ dash ∷ []
 unfolding slotText

@@ -6,9 +6,9 @@ use native.Mathlib.Nat.{add-zero, zero-add}
 use native.Mathlib.Omega.{arith}
 use lib.ListN.{length, take, drop, take-append-drop, length-append}
 use lib.Seq.{take-at}
-use Rattle.decimals.specs.Put.{putAt, Puts}
-use Rattle.decimals.proofs.Putting.{puts-room, puts-then}
-use Rattle.lines.specs.Text.{eachAfter}
+use Rattle.texts.specs.Put.{putAt, Puts}
+use Rattle.texts.specs.Joined.{eachAfter}
+use Rattle.texts.proofs.Putting.{puts-room, puts-then}
 
 pub puts-none : (x : List ℕ) (at : ℕ) → Puts [] at x x at
 unfolding putAt

@@ -6,9 +6,10 @@ use native.Mathlib.Numerals.{add-one}
 use native.Mathlib.Omega.{arith}
 use lib.ListN.{length, take, drop, getD, length-append, take-append-drop}
 use lib.Seq.{length-take-le, drop-append-le, take-take, slice, slice-cons, slice-empty}
-use Rattle.decimals.specs.Put.{Puts}
-use Rattle.lines.specs.Text.{space, comma, eachAfter, slotText, seatsText}
-use Rattle.decimals.proofs.Putting.{puts-length, puts-then}
+use Rattle.texts.specs.Put.{Puts}
+use Rattle.texts.specs.Joined.{space, comma, eachAfter}
+use Rattle.texts.proofs.Putting.{puts-length, puts-then}
+use Rattle.lines.specs.Text.{slotText, seatsText}
 use Rattle.lines.proofs.Pieces.{puts-none, room-left, puts-piece}
 
 -- the seats from one core up to another, each behind a comma

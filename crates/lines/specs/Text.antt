@@ -4,32 +4,11 @@ use mathlib.Core.Bool.{cond}
 use mathlib.Core.List.{List, [], _∷_, _++_, map}
 use lib.Dec.{eqb}
 use lib.ListN.{getD}
+use Rattle.texts.specs.Joined.{newline, space, comma, dash, joined}
 use Rattle.decimals.specs.Decimal.{decimal}
 use Rattle.dispatcher.specs.Limits.{none}
 use Rattle.dispatcher.specs.declared.PlainReport.{PlainReport}
 use Rattle.lines.specs.declared.Line.{Line}
-
-abbrev pub newline : ℕ
-newline = 10
-
-abbrev pub space : ℕ
-space = 32
-
-abbrev pub comma : ℕ
-comma = 44
-
-abbrev pub dash : ℕ
-dash = 45
-
--- each text after a character
-abbrev pub eachAfter : ℕ → List (List ℕ) → List ℕ
-eachAfter c [] = []
-eachAfter c (t ∷ ts) = c ∷ (t ++ eachAfter c ts)
-
--- texts with a character between each and the next
-abbrev pub joined : ℕ → List (List ℕ) → List ℕ
-joined c [] = []
-joined c (t ∷ ts) = t ++ eachAfter c ts
 
 -- C, W, B or D for kinds 0 to 3
 abbrev pub letterOf : ℕ → ℕ

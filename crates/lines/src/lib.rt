@@ -1,14 +1,14 @@
 // Writes report lines as text into lent bytes.
-ghost use Prim.Native.Nat.{_+_, _≤_, _<_};
+ghost use Prim.Native.Nat.{_+_, _≤_};
 ghost use mathlib.Core.Path.{_≡_};
-ghost use mathlib.Core.Logic.{_⊎_};
-ghost use mathlib.Core.List.{[], _∷_, _++_};
-ghost use lib.ListN.{length, take, drop};
+ghost use mathlib.Core.List.{[], _∷_};
+ghost use lib.ListN.{length, take};
 ghost use Rattle.laws.specs.Answering.{_when_};
+ghost use Rattle.texts.specs.Put.{Puts};
+ghost use Rattle.texts.specs.Joined.{space, eachAfter, joined};
 ghost use Rattle.decimals.specs.Decimal.{decimal};
-ghost use Rattle.decimals.specs.Put.{Puts};
 ghost use Rattle.dispatcher.specs.Limits.{LegalCount};
-ghost use Rattle.lines.specs.Text.{space, eachAfter, joined, letterOf, slotText, eventFields, reportFields, seatsText, lineText, faultText};
+ghost use Rattle.lines.specs.Text.{letterOf, slotText, eventFields, reportFields, seatsText, lineText, faultText};
 ghost use Rattle.lines.specs.Line.{IsLineKind, IsLong, Stands, Writes, WritesFault};
 use dispatcher::Answer;
 use dispatcher::Dispatcher;
@@ -52,20 +52,12 @@ fn letter(kind: u8) -> u8
     b'D'
 }
 
-fn put_byte(text: &mut [u8], at: usize, c: u8) -> usize
-    requires { ⌜ at < length (now text) ⌝ }
-    ensures { λ r. ⌜ Puts (c ∷ []) at (now (text .entry)) (now (text .exit)) r ⌝ }
-{
-    text[at] = c;
-    at + 1
-}
-
 // A space, and a number.
 fn put_number(text: &mut [u8], at: usize, n: u64) -> usize
     requires { ⌜ at + length (space ∷ decimal n) ≤ length (now text) ⌝ }
     ensures { λ r. ⌜ Puts (space ∷ decimal n) at (now (text .entry)) (now (text .exit)) r ⌝ }
 {
-    let next = put_byte(text, at, b' ');
+    let next = texts::put_byte(text, at, b' ');
     decimals::put(text, next, n)
 }
 
@@ -74,9 +66,9 @@ fn put_slot(text: &mut [u8], at: usize, c: u8, slot: u16) -> usize
     requires { ⌜ at + length (c ∷ slotText slot) ≤ length (now text) ⌝ }
     ensures { λ r. ⌜ Puts (c ∷ slotText slot) at (now (text .entry)) (now (text .exit)) r ⌝ }
 {
-    let next = put_byte(text, at, c);
+    let next = texts::put_byte(text, at, c);
     if slot == Dispatcher::NONE {
-        return put_byte(text, next, b'-');
+        return texts::put_byte(text, next, b'-');
     }
     decimals::put(text, next, slot as u64)
 }
@@ -101,8 +93,8 @@ fn put_event(text: &mut [u8], line: Line) -> usize
     ensures { λ r. ⌜ Puts (joined space (eventFields line)) 0 (now (text .entry)) (now (text .exit)) r ⌝ }
 {
     let number = decimals::put(text, 0, line.number as u64);
-    let gap = put_byte(text, number, b' ');
-    let kind = put_byte(text, gap, letter(line.kind));
+    let gap = texts::put_byte(text, number, b' ');
+    let kind = texts::put_byte(text, gap, letter(line.kind));
     put_number(text, kind, line.slot as u64)
 }
 
@@ -125,35 +117,15 @@ fn put_line(text: &mut [u8], line: Line, seats: [u16; Dispatcher::CORES], cores:
     let event = put_event(text, line);
     let report = put_report(text, event, line.report);
     let all = put_seats(text, report, seats, cores);
-    put_byte(text, all, b'\n')
+    texts::put_byte(text, all, b'\n')
 }
 
-// All of a text, or nothing where the room is too small.
-fn whole(size: usize, room: usize) -> usize
-    ensures { λ r. ⌜ ((r ≡ 0) × (room < size)) ⊎ ((r ≡ size) × (size ≤ room)) ⌝ }
-{
-    if room < size { 0 } else { size }
-}
-
-fn copy(text: &[u8], n: usize, buffer: &mut [u8])
-    requires { ⌜ (n ≤ length (now text)) × (n ≤ length (now buffer)) ⌝ }
-    ensures { λ _. ⌜ now (buffer .exit) ≡ take n (now (text .entry)) ++ drop n (now (buffer .entry)) ⌝ }
-{
-    let mut i: usize = 0;
-    while i < n {
-        buffer[i] = text[i];
-        i += 1;
-    }
-}
-
-// Hands the first bytes of a text over, all or none.
+// Hands a text over, and answers 15 where there was no room.
 fn hand_over(text: &[u8], size: usize, buffer: &mut [u8]) -> Written
-    requires { ⌜ (0 < size) × (size ≤ length (now text)) ⌝ }
+    requires { ⌜ size ≤ length (now text) ⌝ }
     ensures { λ r. ⌜ Stands (15 when IsLong (take size (now (text .entry))) (now (buffer .entry)) ∷ []) (take size (now (text .entry))) (now (buffer .entry)) (now (buffer .exit)) r ⌝ }
 {
-    let n = whole(size, buffer.len());
-    copy(text, n, buffer);
-    if n == 0 {
+    if !texts::hand_over(text, size, buffer) {
         return Written {
             answer: Answer::LineLong,
             length: 0,
@@ -161,7 +133,7 @@ fn hand_over(text: &[u8], size: usize, buffer: &mut [u8]) -> Written
     }
     Written {
         answer: Answer::Done,
-        length: n,
+        length: size,
     }
 }
 
@@ -192,13 +164,13 @@ fn put_fault(text: &mut [u8], number: u8, offset: usize) -> usize
     requires { ⌜ length (faultText number offset) ≤ length (now text) ⌝ }
     ensures { λ r. ⌜ Puts (faultText number offset) 0 (now (text .entry)) (now (text .exit)) r ⌝ }
 {
-    copy(b"refused", 7, text);
+    texts::copy(b"refused", 7, text);
     let answer = put_number(text, 7, number as u64);
-    let gap = put_byte(text, answer, b' ');
-    let a = put_byte(text, gap, b'a');
-    let t = put_byte(text, a, b't');
+    let gap = texts::put_byte(text, answer, b' ');
+    let a = texts::put_byte(text, gap, b'a');
+    let t = texts::put_byte(text, a, b't');
     let place = put_number(text, t, offset as u64);
-    put_byte(text, place, b'\n')
+    texts::put_byte(text, place, b'\n')
 }
 
 // The one line of a refused file.

@@ -6,7 +6,7 @@ use borrow.Author.Needs.{needs}
 use borrow.Fn.Kinds.{In}
 use borrow.Fn.PlainCycle.{Measures, is, falls, and}
 use Rattle.decimals.proofs.Spelling.{decimal-some, decimal-small, decimal-more, length-more}
-use Rattle.decimals.proofs.Putting.{puts-room, puts-one, puts-then}
+use Rattle.texts.proofs.Putting.{puts-room, puts-one, puts-then}
 use Rattle.decimals.proofs.put.Reads as put
 use Rattle.decimals.proofs.put.Kinds as put-kinds
 use Rattle.decimals.proofs.+put.Lts-put as put-lts

@@ -1,44 +1,35 @@
--- `hand_over` meets its contract: nothing is copied where the buffer is too short, and else the whole text.
-use Prim.Native.Nat.{_≤_, _<_}
-use mathlib.Core.Path.{_≡_, refl, sym, _∙_}
-use mathlib.Core.Logic.{inl, inr}
+-- `hand_over` meets its contract: the text was handed over as a whole, or there was no room and it is refused.
+use mathlib.Core.Path.{refl, sym}
 use native.Mathlib.Omega.{arith}
-use lib.ListN.{length, take}
 use lib.Seq.{length-take-le}
-use denote.Ref.{now}
 use borrow.Author.Needs.{needs}
+use borrow.Author.Tests.{not-true, not-false}
 use Rattle.laws.proofs.Answering.{answers-one, answers-none}
 use Rattle.lines.proofs.Standing.{stands-refused, stands-done}
 use Rattle.lines.proofs.hand_over.Statement.{statement}
 use Rattle.lines.proofs.hand_over.Tie as tie
 
-size-told : (e : tie.Start) → length (take (e .args .size) (now (e .args .text))) ≡ e .args .size
-size-told e = length-take-le (e .args .size) (now (e .args .text)) (e .pre .1)
-
-whole-requires : tie.Need-whole-requires
-whole-requires c κs = search needs
-
-copy-requires : tie.Need-copy-requires
-copy-requires c κs = elim (c .before .whole .ensures) [ inl h ↦ (omega arith, omega arith) | inr h ↦ (omega arith, omega arith) ]
+hand-over-requires : tie.Need-hand-over-requires
+hand-over-requires c κs = search needs
 
 same-length : tie.Need-same-length
 same-length c = search needs
 
 returns : tie.Need-returns
 returns c =
-    let e = c .before .before .before .before .before .before .before .before in
-    let long : length (now (e .args .buffer)) < e .args .size = elim (c .before .before .before .before .before .whole .ensures) [ inl h ↦ h .1 | inr h ↦ absurd (omega arith) ] in
-    rw (rw (c .if1 .taken) at (c .before .before .before .copy .ensures)) (stands-refused (answers-one 15 (omega arith) (rw (size-told e) long)) (λ z. omega arith) refl)
+    let handed = c .before .before .before .hand-over .ensures in
+    let none = not-true _ (c .if1 .taken) in
+    rw (handed .kept none) (stands-refused (answers-one 15 (omega arith) (omega (arith, handed .room .no none))) (λ z. omega arith) refl)
 
 same-length-2 : tie.Need-same-length-2
 same-length-2 c = search needs
 
 returns-2 : tie.Need-returns-2
 returns-2 c =
-    let e = c .before .before .before .before .before .before .before .before in
-    let w = c .before .before .before .before .before .whole in
-    let all : (w .result ≡ e .args .size) × (e .args .size ≤ length (now (e .args .buffer))) = elim (w .ensures) [ inl h ↦ absurd (omega arith) | inr h ↦ h ] in
-    stands-done (answers-none 15 (λ l. omega (arith, size-told e))) refl (all .0 ∙ sym (size-told e)) (rw (size-told e) (rw (all .0) at (c .before .before .before .copy .ensures)))
+    let handed = c .before .before .before .hand-over .ensures in
+    let e = c .before .before .before .before .before .before .before in
+    let room = not-false _ (c .if1 .left) in
+    stands-done (answers-none 15 (λ l. omega (arith, handed .room .yes room))) refl (sym (length-take-le _ _ (e .pre))) (handed .written room)
 
 pub hand-over-spec : {M : Type 1} → statement M
-hand-over-spec = tie.close (tie.spec whole-requires copy-requires same-length returns same-length-2 returns-2)
+hand-over-spec = tie.close (tie.spec hand-over-requires same-length returns same-length-2 returns-2)

@@ -1,7 +1,7 @@
 -- `put_number` meets its contract: a space, and the number after it.
 use native.Mathlib.Omega.{arith}
 use borrow.Author.Needs.{needs}
-use Rattle.decimals.proofs.Putting.{puts-then}
+use Rattle.texts.proofs.Putting.{puts-then}
 use Rattle.lines.proofs.put_number.Statement.{statement}
 use Rattle.lines.proofs.put_number.Tie as tie
 

@@ -3,7 +3,7 @@ use mathlib.Core.Path.{ap}
 use native.Mathlib.Omega.{arith}
 use lib.ListN.{length}
 use borrow.Author.Needs.{needs}
-use Rattle.decimals.proofs.Putting.{puts-then}
+use Rattle.texts.proofs.Putting.{puts-then}
 use Rattle.lines.proofs.Parts.{slot-dash, slot-number}
 use Rattle.lines.proofs.put_slot.Statement.{statement}
 use Rattle.lines.proofs.put_slot.Tie as tie

@@ -2,13 +2,12 @@
 use Prim.Native.Nat.{_≤_}
 use mathlib.Core.Path.{_≡_}
 use native.Mathlib.Omega.{arith}
-use lib.ListN.{length, take, length-map}
+use lib.ListN.{length, length-map}
 use borrow.Author.Needs.{needs}
 use borrow.Author.Tests.{not-true, not-false}
 use Rattle.dispatcher.specs.Limits.{coreLimit}
 use Rattle.dispatcher.specs.Sound.{Sound}
 use Rattle.lines.specs.Line.{textOf}
-use Rattle.lines.proofs.Parts.{line-length}
 use Rattle.lines.proofs.Pieces.{puts-read}
 use Rattle.lines.proofs.Longest.{Wide, line-longest}
 use Rattle.lines.proofs.Standing.{writes-unsound, writes-bad-kind, writes-handed}
@@ -49,10 +48,7 @@ slice-aggregate-hand-over : tie.Need-slice-aggregate-hand-over
 slice-aggregate-hand-over c = search needs
 
 hand-over-requires : tie.Need-hand-over-requires
-hand-over-requires c κs =
-    let p = c .before .before .before in
-    let a = p .before .before .before .before .before .before .before .before .before .args in
-    (omega (arith, line-length (a .line) (take (a .d .cores) (a .d .seats))), omega (arith, room (p .before)))
+hand-over-requires c κs = omega (arith, room (c .before .before .before .before))
 
 same-length : tie.Need-same-length
 same-length c = search needs

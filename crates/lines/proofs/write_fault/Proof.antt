@@ -4,7 +4,6 @@ use native.Mathlib.Omega.{arith}
 use lib.ListN.{length}
 use borrow.Author.Needs.{needs}
 use Rattle.lines.specs.Text.{faultText}
-use Rattle.lines.proofs.Parts.{fault-length}
 use Rattle.lines.proofs.Pieces.{puts-read}
 use Rattle.lines.proofs.Longest.{fault-longest}
 use Rattle.lines.proofs.write_fault.Statement.{statement}
@@ -23,9 +22,7 @@ slice-aggregate-hand-over : tie.Need-slice-aggregate-hand-over
 slice-aggregate-hand-over c = search needs
 
 hand-over-requires : tie.Need-hand-over-requires
-hand-over-requires c κs =
-    let e = c .before .before .before .before .before .before in
-    (omega (arith, fault-length (e .args .number) (e .args .offset)), omega (arith, room e))
+hand-over-requires c κs = omega (arith, room (c .before .before .before .before .before .before))
 
 same-length : tie.Need-same-length
 same-length c = search needs

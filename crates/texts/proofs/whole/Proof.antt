@@ -1,8 +1,8 @@
 -- `whole` meets its contract: its test decides which of the two holds.
 use mathlib.Core.Path.{refl}
 use mathlib.Core.Logic.{inl, inr}
-use Rattle.lines.proofs.whole.Statement.{statement}
-use Rattle.lines.proofs.whole.Tie as tie
+use Rattle.texts.proofs.whole.Statement.{statement}
+use Rattle.texts.proofs.whole.Tie as tie
 
 returns : tie.Need-returns
 returns c = inl (refl, c .if1 .taken)

@@ -5,7 +5,7 @@ use mathlib.Core.Logic.{_≢_, inl, inr}
 use mathlib.Core.List.{List, [], _∷_, _++_, append-nil}
 use Rattle.laws.specs.Lists.{In, All}
 use Rattle.laws.proofs.Lists.{in-append}
-use Rattle.lines.specs.Text.{eachAfter, joined}
+use Rattle.texts.specs.Joined.{eachAfter, joined}
 
 abbrev pub Without : ℕ → List ℕ → Type 0
 Without c t = In c t → ⊥

@@ -8,8 +8,8 @@ use native.Mathlib.Omega.{arith}
 use lib.ListN.{length, take, drop, getD, set, length-set}
 use lib.Seq.{paste-suc}
 use borrow.Author.Needs.{needs}
-use Rattle.lines.proofs.copy.Statement.{statement}
-use Rattle.lines.proofs.copy.Tie as tie
+use Rattle.texts.proofs.copy.Statement.{statement}
+use Rattle.texts.proofs.copy.Tie as tie
 
 -- a turn's store: `paste-suc` at place 0
 copied-more : (s d : List ℕ) (i : ℕ) → i < length s → i < length d → set (take i s ++ drop i d) i (getD s i 0) ≡ take (i + 1) s ++ drop (i + 1) d

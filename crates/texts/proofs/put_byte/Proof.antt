@@ -1,8 +1,8 @@
 -- `put_byte` meets its contract: one byte that is set is a text of one byte that is put.
 use borrow.Author.Needs.{needs}
-use Rattle.decimals.proofs.Putting.{puts-one}
-use Rattle.lines.proofs.put_byte.Statement.{statement}
-use Rattle.lines.proofs.put_byte.Tie as tie
+use Rattle.texts.proofs.Putting.{puts-one}
+use Rattle.texts.proofs.put_byte.Statement.{statement}
+use Rattle.texts.proofs.put_byte.Tie as tie
 
 slice-write-text : tie.Need-slice-write-text
 slice-write-text c = search needs

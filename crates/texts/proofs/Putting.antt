@@ -7,7 +7,7 @@ use native.Mathlib.Numerals.{add-one}
 use native.Mathlib.Omega.{arith}
 use lib.ListN.{length, take, drop, set, length-append, length-drop}
 use lib.Seq.{length-take-le, take-at, drop-append-add, drop-drop, set-split}
-use Rattle.decimals.specs.Put.{putAt, Puts}
+use Rattle.texts.specs.Put.{putAt, Puts}
 
 -- the bytes up to the end of the text
 front-length : (bytes : List ℕ) (at : ℕ) (t : List ℕ) → at + length t ≤ length bytes → length (take at bytes ++ t) ≡ at + length t
