@@ -51,7 +51,7 @@ decimal-some = by-digits (λ n l. rw (decimal-small n l) (omega arith)) (λ n l 
 
 -- ---- the number that a text says
 
-value-append : (v : ℕ) (s t : List ℕ) → valueAfter v (s ++ t) ≡ valueAfter (valueAfter v s) t
+pub value-append : (v : ℕ) (s t : List ℕ) → valueAfter v (s ++ t) ≡ valueAfter (valueAfter v s) t
 value-append v [] t = refl
 value-append v (c ∷ s) t = value-append (10 * v + (c - 48)) s t
 

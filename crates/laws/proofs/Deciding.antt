@@ -47,6 +47,14 @@ pub decides-and : {P Q : Type 0} {a b : Bool} → Decides P a → Decides Q b �
 decides-and {a = true} p q = decides-by (λ y. (p .yes refl, y)) (λ h. h .1) q
 decides-and {a = false} p q = decides-false (λ h. p .no refl (h .0))
 
+pub decides-or : {P Q : Type 0} {a b : Bool} → Decides P a → Decides Q b → Decides (P ⊎ Q) (a || b)
+decides-or {a = true} p q = decides-true (inl (p .yes refl))
+decides-or {P} {Q} {a = false} {b} p q = decides-by inr left q
+  where
+    left : P ⊎ Q → Q
+    left (inl h) = absurd (p .no refl h)
+    left (inr h) = h
+
 pub decides-eq : (a b : ℕ) → Decides (a ≡ b) (eqb a b)
 decides-eq a b = record { yes = eqb-true a b; no = eqb-false a b }
 

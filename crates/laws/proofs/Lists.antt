@@ -5,7 +5,7 @@ use mathlib.Core.Logic.{_⊎_, inl, inr}
 use mathlib.Core.List.{List, [], _∷_, _++_}
 use native.Mathlib.Nat.{not-suc-le-zero, le-of-suc-le-suc}
 use lib.ListN.{length, getD}
-use Rattle.laws.specs.Lists.{In, All}
+use Rattle.laws.specs.Lists.{In, All, Any}
 
 -- below the length it does not matter what would stand beyond it
 pub getD-any : {A : Type 0} (l : List A) (i : ℕ) (a b : A) → i < length l → getD l i a ≡ getD l i b
@@ -30,3 +30,22 @@ pub in-append : (c : ℕ) (s t : List ℕ) → In c (s ++ t) → In c s ⊎ In c
 in-append c [] t i = inr i
 in-append c (a ∷ s) t (inl e) = inl (inl e)
 in-append c (a ∷ s) t (inr i) = elim (in-append c s t i) [ inl j ↦ inl (inr j) | inr j ↦ inr j ]
+
+-- a claim on each, or on one, of two lists, one after the other
+pub all-append : {A : Type 0} (P : A → Type 0) (s t : List A) → All P s → All P t → All P (s ++ t)
+all-append P [] t h k = k
+all-append P (x ∷ s) t h k = (h .0, all-append P s t (h .1) k)
+
+pub any-append : {A : Type 0} (P : A → Type 0) (s t : List A) → Any P (s ++ t) → Any P s ⊎ Any P t
+any-append P [] t h = inr h
+any-append P (x ∷ s) t (inl h) = inl (inl h)
+any-append P (x ∷ s) t (inr h) = elim (any-append P s t h) [ inl k ↦ inl (inr k) | inr k ↦ inr k ]
+
+pub any-left : {A : Type 0} (P : A → Type 0) (s t : List A) → Any P s → Any P (s ++ t)
+any-left P [] t h = absurd h
+any-left P (x ∷ s) t (inl h) = inl h
+any-left P (x ∷ s) t (inr h) = inr (any-left P s t h)
+
+pub any-right : {A : Type 0} (P : A → Type 0) (s t : List A) → Any P t → Any P (s ++ t)
+any-right P [] t h = h
+any-right P (x ∷ s) t h = inr (any-right P s t h)

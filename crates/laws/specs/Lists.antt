@@ -1,4 +1,4 @@
--- Lists: who stands in one, that none stands in it twice, a claim on each, and the last of one that is not empty.
+-- Lists: who stands in one, that none stands in it twice, a claim on each and on one, and the last of one that is not empty.
 use Prim.Native.Nat.{ℕ}
 use mathlib.Core.Path.{_≡_}
 use mathlib.Core.Logic.{_⊎_}
@@ -16,6 +16,11 @@ Distinct (c ∷ p) = (In c p → ⊥) × Distinct p
 abbrev pub All : {A : Type 0} → (A → Type 0) → List A → Type 0
 All P [] = Unit {0}
 All P (x ∷ xs) = P x × All P xs
+
+-- a claim holds of one of a list
+abbrev pub Any : {A : Type 0} → (A → Type 0) → List A → Type 0
+Any P [] = ⊥
+Any P (x ∷ xs) = P x ⊎ Any P xs
 
 -- the last of c ∷ p
 abbrev pub last : ℕ → List ℕ → ℕ

@@ -8,9 +8,8 @@ use lib.ListN.{length, take, drop, getD, length-append, take-append-drop}
 use lib.Seq.{length-take-le, drop-append-le, take-take, slice, slice-cons, slice-empty}
 use Rattle.texts.specs.Put.{Puts}
 use Rattle.texts.specs.Joined.{space, comma, eachAfter}
-use Rattle.texts.proofs.Putting.{puts-length, puts-then}
+use Rattle.texts.proofs.Putting.{puts-length, puts-none, puts-then, room-left, puts-piece}
 use Rattle.lines.specs.Text.{slotText, seatsText}
-use Rattle.lines.proofs.Pieces.{puts-none, room-left, puts-piece}
 
 -- the seats from one core up to another, each behind a comma
 unfoldable pub commas : List ℕ → ℕ → ℕ → List ℕ

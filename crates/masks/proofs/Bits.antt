@@ -37,7 +37,7 @@ bit-under (suc w) m h n = go (ℕ-discrete (m % 2) 1) (bit-under w (m / 2) (omeg
         let r = rest (λ z. n (omega arith)) in
         (1 + r .0, sym (has-shifted m 1 (r .0)) ∙ r .1)
 
-below-power : (m : ℕ) → m < 2 ^ m
+pub below-power : (m : ℕ) → m < 2 ^ m
 below-power zero = omega arith
 below-power (suc m) = let h = below-power m in omega (arith, pow-suc 2 m)
 

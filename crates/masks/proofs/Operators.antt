@@ -4,18 +4,18 @@ use mathlib.Core.Path.{_≡_, refl, sym, ap, _∙_}
 use mathlib.Core.Logic.{_≢_}
 use mathlib.Core.Bool.{Bool, true, false, _&&_, _||_, cond}
 use native.Mathlib.Decide.{ℕ-discrete, decLt}
-use native.Mathlib.Nat.{pow-suc, zero-div, one-mul, div-lt-iff-lt-mul}
+use native.Mathlib.Nat.{pow-suc, zero-div, one-mul, mul-mod-left, div-lt-iff-lt-mul}
 use native.Mathlib.Numerals.{one-add}
 use native.Mathlib.Omega.{arith}
 use lib.Arith.{digits-mod}
 use lib.Bits.{bitAnd, bitOr, and-step, or-step, and-shr, or-shr, and-mask, or-add-and, and-le-r}
 use lib.Dec.{eqb, ltb}
-use lib.Pow.{pow-pos, shr-shr, shl-exact}
+use lib.Pow.{pow-pos, pow-mono, shl-shr, shr-shr, shl-exact}
 use borrow.Author.Tests.{ne-eqb, lt-ltb, le-ltb}
 use Rattle.laws.proofs.Deciding.{clash}
 use Rattle.laws.proofs.Testing.{and-both, both-and}
 use Rattle.masks.specs.Masks.{has}
-use Rattle.masks.proofs.Bits.{has-shifted, has-zero, some-bit}
+use Rattle.masks.proofs.Bits.{has-shifted, has-zero, below-power, some-bit}
 
 lowest-bit : (m : ℕ) → m / 2 ^ 0 % 2 ≡ m % 2
 lowest-bit m = omega arith
@@ -148,3 +148,21 @@ same-bits (suc w) a b p q h =
     same-lowest (suc (suc x)) y p q e = absurd (omega arith)
     same-lowest zero (suc (suc y)) p q e = absurd (omega arith)
     same-lowest (suc zero) (suc (suc y)) p q e = absurd (omega arith)
+
+-- and so are two of any size
+pub same-cores : (a b : ℕ) → ((k : ℕ) → has a k ≡ has b k) → a ≡ b
+same-cores a b h =
+    let p = below-power a in
+    let q = below-power b in
+    let l : 2 ^ a ≤ 2 ^ (a + b) = pow-mono (omega arith) in
+    let k : 2 ^ b ≤ 2 ^ (a + b) = pow-mono (omega arith) in
+    same-bits (a + b) a b (omega arith) (omega arith) h
+
+-- ---- a mask shifted up
+
+pub has-up : (m j k : ℕ) → has (m * 2 ^ j) (j + k) ≡ has m k
+has-up m j k = sym (has-shifted (m * 2 ^ j) j k) ∙ ap (λ (n : ℕ). has n k) (shl-shr m j)
+
+-- it has no bit below those
+pub up-none : (m j k : ℕ) → k < j → has (m * 2 ^ j) k ≡ true → ⊥
+up-none m j k l h = clash (has-cut (m * 2 ^ j) j k ∙ both-and h (lt-ltb k j l)) (ap (λ (n : ℕ). has n k) (mul-mod-left m (2 ^ j)) ∙ has-zero k)

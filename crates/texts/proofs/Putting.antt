@@ -2,10 +2,10 @@
 use Prim.Native.Nat.{ℕ, _+_, _≤_, _<_}
 use mathlib.Core.Path.{_≡_, refl, sym, _∙_}
 use mathlib.Core.List.{List, [], _∷_, _++_, append-assoc}
-use native.Mathlib.Nat.{add-assoc}
+use native.Mathlib.Nat.{add-assoc, add-zero}
 use native.Mathlib.Numerals.{add-one}
 use native.Mathlib.Omega.{arith}
-use lib.ListN.{length, take, drop, set, length-append, length-drop}
+use lib.ListN.{length, take, drop, set, take-append-drop, length-append, length-drop}
 use lib.Seq.{length-take-le, take-at, drop-append-add, drop-drop, set-split}
 use Rattle.texts.specs.Put.{putAt, Puts}
 
@@ -38,6 +38,10 @@ puts-length {t} {at} {x = x} p room = rw (p .bytes) (put-length x at t room)
 pub puts-room : {t : List ℕ} {at r : ℕ} {x y : List ℕ} → Puts t at x y r → (k : ℕ) → at + length t + k ≤ length x → r + k ≤ length y
 puts-room p k room = omega (arith, puts-length p (omega arith))
 
+pub puts-none : (x : List ℕ) (at : ℕ) → Puts [] at x x at
+unfolding putAt
+puts-none x at = record { bytes = sym (rw add-zero (take-append-drop at x)); next = omega arith }
+
 pub puts-one : (x : List ℕ) (at c : ℕ) → at < length x → Puts (c ∷ []) at x (set x at c) (at + 1)
 puts-one x at c room = record { bytes = put-one x at c room; next = refl }
 
@@ -48,6 +52,21 @@ puts-then {a} {b} {at} {x = x} p q room =
       bytes = q .bytes ∙ rw (p .bytes, p .next) (put-put x at a b room);
       next = rw (q .next, p .next, length-append, add-assoc);
     }
+
+-- the room for what follows a text
+pub room-left : {a : List ℕ} {at m : ℕ} {x y : List ℕ} → Puts a at x y m → (b : List ℕ) → at + length (a ++ b) ≤ length x → m + length b ≤ length y
+room-left {a} p b room = puts-room p (length b) (omega (arith, length-append a b))
+
+-- a text after a text, where the second is known to be put once there is room for it
+pub puts-piece : {a b : List ℕ} {at m r : ℕ} {x y z : List ℕ} → Puts a at x y m → (m + length b ≤ length y → Puts b m y z r) → at + length (a ++ b) ≤ length x
+    → Puts (a ++ b) at x z r
+puts-piece {a} {b} p q room = puts-then p (q (room-left p b room)) (omega (arith, length-append a b))
+
+-- it stands behind what stood before its place
+pub puts-taken : {t : List ℕ} {at r : ℕ} {x y : List ℕ} → Puts t at x y r → at + length t ≤ length x → take r y ≡ take at x ++ t
+unfolding putAt
+puts-taken {t} {at} {x = x} p room =
+    rw (p .bytes, p .next, ← append-assoc (take at x) t) (take-at (take at x ++ t) (drop (at + length t) x) (at + length t) (front-length x at t room))
 
 pub puts-same : {t : List ℕ} {at r q : ℕ} {x y z : List ℕ} → Puts t at x y r → Puts t at x z q → (y ≡ z) × (r ≡ q)
 puts-same p q = (p .bytes ∙ sym (q .bytes), p .next ∙ sym (q .next))

@@ -5,7 +5,8 @@ use lib.ListN.{length}
 use borrow.Author.Needs.{needs}
 use Rattle.lines.specs.Text.{refusedWord}
 use Rattle.lines.proofs.Parts.{fault-pieces, fault-length}
-use Rattle.lines.proofs.Pieces.{puts-front, puts-piece}
+use Rattle.texts.proofs.Putting.{puts-piece}
+use Rattle.lines.proofs.Pieces.{puts-front}
 use Rattle.lines.proofs.put_fault.Statement.{statement}
 use Rattle.lines.proofs.put_fault.Tie as tie
 

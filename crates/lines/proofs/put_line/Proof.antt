@@ -4,7 +4,7 @@ use native.Mathlib.Omega.{arith}
 use lib.ListN.{length, take}
 use borrow.Author.Needs.{needs}
 use Rattle.lines.proofs.Parts.{line-pieces, line-length}
-use Rattle.lines.proofs.Pieces.{puts-piece}
+use Rattle.texts.proofs.Putting.{puts-piece}
 use Rattle.lines.proofs.put_line.Statement.{statement}
 use Rattle.lines.proofs.put_line.Tie as tie
 

@@ -2,7 +2,8 @@
 use native.Mathlib.Omega.{arith}
 use borrow.Author.Needs.{needs}
 use Rattle.lines.proofs.Parts.{report-length}
-use Rattle.lines.proofs.Pieces.{puts-piece, puts-last}
+use Rattle.texts.proofs.Putting.{puts-piece}
+use Rattle.lines.proofs.Pieces.{puts-last}
 use Rattle.lines.proofs.put_report.Statement.{statement}
 use Rattle.lines.proofs.put_report.Tie as tie
 

@@ -1,0 +1,14 @@
+pub mod Numbers
+pub mod Places
+pub mod Grammar
+pub mod Passing
+pub mod Verdicts
+pub mod Pieces
+pub mod Gathering
+pub mod Seeking
+pub mod RunText
+pub mod Ascending
+pub mod Listing
+pub mod Runs
+pub mod Written
+pub mod SameWriting

@@ -1,0 +1,5 @@
+pub mod List
+pub mod Longest
+pub mod Faults
+pub mod Promise
+pub mod Progress

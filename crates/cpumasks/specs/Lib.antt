@@ -1,0 +1,4 @@
+pub mod Mask
+pub mod Faults
+pub mod Promise
+pub mod Progress
