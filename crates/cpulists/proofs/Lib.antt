@@ -11,4 +11,6 @@ pub mod Ascending
 pub mod Listing
 pub mod Runs
 pub mod Written
-pub mod SameWriting
+pub mod Apart
+pub mod Same
+pub mod Back

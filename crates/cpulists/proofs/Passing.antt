@@ -42,7 +42,7 @@ number-here {t} {d} {a} rest h b e f = record { is = ap (take (length d)) e ∙ 
 pub record CommaBefore (t : List ℕ) (a : ℕ) : Type 0 where
   pub before : (k : ℕ) → a ≡ k + 1 → character t k ≡ comma
 
-comma-start : {t : List ℕ} → CommaBefore t 0
+pub comma-start : {t : List ℕ} → CommaBefore t 0
 comma-start = record { before = λ k e. absurd (omega arith) }
 
 pub comma-number : {t : List ℕ} {a : ℕ} → CommaBefore t a → (k : ℕ) → a ≡ k + 1 → IsDigit (character t k) → ⊥
@@ -54,49 +54,62 @@ comma-forward {t} b h = omega (arith, b .before (h .start + length (h .first)) (
 pub dash-number : (t : List ℕ) (a b : ℕ) → character t a ≡ dash → b ≡ a + 1 → (k : ℕ) → b ≡ k + 1 → IsDigit (character t k) → ⊥
 dash-number t a b j e k q d = let same : k ≡ a = omega arith in omega (arith, j, (rw same at d) .0)
 
--- the first number of a range, and its dash, are passed
+-- ---- an item and its numbers
+
+pub one-number : {t d : List ℕ} {a : ℕ} (rest : List ℕ) → IsNumber d → CommaBefore t a → drop a t ≡ d ++ rest → (IsDigit (character t (a + length d)) → ⊥) → NumberAt t a d
+one-number rest h b e f = number-here rest h (comma-number b) e f
+
+pub range-numbers : {t : List ℕ} {a : ℕ} (d e rest : List ℕ) → IsItem (range d e) → CommaBefore t a → drop a t ≡ itemText (range d e) ++ rest
+    → (IsDigit (character t (a + length (itemText (range d e)))) → ⊥) → NumberAt t a d × NumberAt t (a + length d + 1) e
+range-numbers {t} {a} d e rest h b q f = (one-number (dash ∷ (e ++ rest)) (h .0) b parts (λ g. omega (arith, joint .0, g .0)), number-here rest (h .1) (dash-number t (a + length d) (a + length d + 1) (joint .0) refl) (joint .1) (rw end at f))
+  where
+    parts : drop a t ≡ d ++ (dash ∷ (e ++ rest))
+    parts = q ∙ append-assoc d (dash ∷ e) rest
+
+    joint : (character t (a + length d) ≡ dash) × (drop (a + length d + 1) t ≡ e ++ rest)
+    joint = seam t d (e ++ rest) a dash parts
+
+    end : a + length (d ++ (dash ∷ e)) ≡ a + length d + 1 + length e
+    end = omega (arith, length-append d (dash ∷ e))
+
+-- what follows a comma
+pub comma-next : (t : List ℕ) (a : ℕ) (x rest : List ℕ) → drop a t ≡ x ++ (comma ∷ rest)
+    → (IsDigit (character t (a + length x)) → ⊥) × CommaBefore t (a + length x + 1) × (drop (a + length x + 1) t ≡ rest)
+comma-next t a x rest e =
+    let s = seam t x rest a comma e in
+    ((λ d. omega (arith, s .0, d .0)), record { before = λ k q. let same : a + length x ≡ k = omega arith in rw same at (s .0) }, s .1)
+
+-- what follows the last item
+pub end-next : (t : List ℕ) (a : ℕ) (x : List ℕ) → drop a t ≡ x ++ [] → (length t ≤ a + length x) × (IsDigit (character t (a + length x)) → ⊥)
+end-next t a x e = (ended, past-end t (a + length x) ended)
+  where
+    ended : length t ≤ a + length x
+    ended = omega (arith, length-drop a t, ap length e, length-append x [])
+
+-- ---- items that are in order are passed
+
+-- the first number of a range, and its dash
 pub pass-first : {n : ℕ} {t d : List ℕ} {a : ℕ} → CommaBefore t a → Clear n t a → NumberAt t a d → value d < n → Clear n t (a + length d + 1)
 pass-first b c m l = pass c m (comma-forward b) (not-above m l)
 
 pub pass-item : {n : ℕ} {t : List ℕ} {a : ℕ} (i : Item) (rest : List ℕ) → IsLegal n i → CommaBefore t a → Clear n t a → drop a t ≡ itemText i ++ rest
     → (IsDigit (character t (a + length (itemText i))) → ⊥) → Clear n t (a + length (itemText i) + 1)
-pass-item (one d) rest h b c e f = pass-first b c (number-here rest (h .item) (comma-number b) e f) (h .first-below)
-pass-item {n} {t} {a} (range d e) rest h b c q f = subst (Clear n t) whole (pass (pass-first b c from (h .first-below)) to forward (not-above to (h .last-below)))
+pass-item (one d) rest h b c e f = pass-first b c (one-number rest (h .item) b e f) (h .first-below)
+pass-item {n} {t} {a} (range d e) rest h b c q f = go (range-numbers d e rest (h .item) b q f)
   where
-    parts : drop a t ≡ d ++ (dash ∷ (e ++ rest))
-    parts = q ∙ append-assoc d (dash ∷ e) rest
-
-    joint : character t (a + length d) ≡ dash
-    joint = seam t d (e ++ rest) a dash parts .0
-
-    from : NumberAt t a d
-    from = number-here (dash ∷ (e ++ rest)) (h .item .0) (comma-number b) parts (λ g. omega (arith, joint, g .0))
-
-    end : a + length (d ++ (dash ∷ e)) ≡ a + length d + 1 + length e
-    end = omega (arith, length-append d (dash ∷ e))
-
-    to : NumberAt t (a + length d + 1) e
-    to = number-here rest (h .item .1) (dash-number t (a + length d) (a + length d + 1) joint refl) (seam t d (e ++ rest) a dash parts .1) (rw end at f)
-
-    forward : RunsBackward t (a + length d + 1) → ⊥
-    forward r = omega (arith, backward-from from refl to r, h .forward)
-
     whole : a + length d + 1 + length e + 1 ≡ a + length (d ++ (dash ∷ e)) + 1
-    whole = omega (arith, end)
+    whole = omega (arith, length-append d (dash ∷ e))
 
--- an item and its comma
-pass-comma : {n : ℕ} {t : List ℕ} {a : ℕ} (i : Item) (rest : List ℕ) → IsLegal n i → CommaBefore t a → Clear n t a → drop a t ≡ itemText i ++ (comma ∷ rest)
-    → Clear n t (a + length (itemText i) + 1) × CommaBefore t (a + length (itemText i) + 1) × (drop (a + length (itemText i) + 1) t ≡ rest)
-pass-comma {n} {t} {a} i rest h b c e =
-    let s = seam t (itemText i) rest a comma e in
-    (pass-item i (comma ∷ rest) h b c e (λ d. omega (arith, s .0, d .0)), record { before = λ k q. let same : a + length (itemText i) ≡ k = omega arith in rw same at (s .0) }, s .1)
+    go : NumberAt t a d × NumberAt t (a + length d + 1) e → Clear n t (a + length (d ++ (dash ∷ e)) + 1)
+    go m = rw whole at (pass (pass-first b c (m .0) (h .first-below)) (m .1) (λ r. omega (arith, backward-from (m .0) refl (m .1) r, h .forward)) (not-above (m .1) (h .last-below)))
 
 pub pass-followed : {n : ℕ} {t : List ℕ} (items : List Item) (a : ℕ) (rest : List ℕ) → All (IsLegal n) items → CommaBefore t a → Clear n t a → drop a t ≡ followed items ++ rest
     → Clear n t (a + length (followed items)) × CommaBefore t (a + length (followed items))
 pass-followed {n} {t} [] a rest h b c e = let same : a ≡ a + 0 = omega arith in rw (← same) (c, b)
 pass-followed {n} {t} (i ∷ items) a rest h b c e =
-    let p = pass-comma i (followed items ++ rest) (h .0) b c (e ∙ append-assoc (itemText i) (comma ∷ followed items) rest) in
-    rw whole at (pass-followed items (a + length (itemText i) + 1) rest (h .1) (p .1) (p .0) (p .2))
+    let q = e ∙ append-assoc (itemText i) (comma ∷ followed items) rest in
+    let p = comma-next t a (itemText i) (followed items ++ rest) q in
+    rw whole at (pass-followed items (a + length (itemText i) + 1) rest (h .1) (p .1) (pass-item i (comma ∷ (followed items ++ rest)) (h .0) b c q (p .0)) (p .2))
   where
     whole : a + length (itemText i) + 1 + length (followed items) ≡ a + length (itemText i ++ (comma ∷ followed items))
     whole = omega (arith, length-append (itemText i) (comma ∷ followed items))
@@ -114,14 +127,12 @@ opens-clear {n} {t} {at} o =
 
 clear-list : {n : ℕ} {t : List ℕ} (i : Item) (items : List Item) (a : ℕ) → All (IsLegal n) (i ∷ items) → CommaBefore t a → Clear n t a → drop a t ≡ listText (i ∷ items) → Clear n t (length t)
 clear-list {n} {t} i [] a h b c e =
-    let d = pass-item i [] (h .0) b c e (past-end t (a + length (itemText i)) ended) in
-    record { backward = λ p r. omega (arith, d .backward p r, ended); above = λ p r. omega (arith, d .above p r, ended) }
-  where
-    ended : length t ≤ a + length (itemText i)
-    ended = omega (arith, length-drop a t, ap length e, length-append (itemText i) [])
+    let p = end-next t a (itemText i) e in
+    let d = pass-item i [] (h .0) b c e (p .1) in
+    record { backward = λ o r. omega (arith, d .backward o r, p .0); above = λ o r. omega (arith, d .above o r, p .0) }
 clear-list {n} {t} i (j ∷ items) a h b c e =
-    let p = pass-comma i (listText (j ∷ items)) (h .0) b c e in
-    clear-list j items (a + length (itemText i) + 1) (h .1) (p .1) (p .0) (p .2)
+    let p = comma-next t a (itemText i) (listText (j ∷ items)) e in
+    clear-list j items (a + length (itemText i) + 1) (h .1) (p .1) (pass-item i (comma ∷ listText (j ∷ items)) (h .0) b c e (p .0)) (p .2)
 
 all-clear : {n : ℕ} {t : List ℕ} (items : List Item) → All (IsLegal n) items → t ≡ listText items → Clear n t (length t)
 all-clear [] h e = rw e clear-start

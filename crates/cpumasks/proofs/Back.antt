@@ -16,7 +16,7 @@ use Rattle.cpumasks.specs.Faults.{maskFaults}
 use Rattle.cpumasks.specs.Promise.{ReadsMask, WritesMask}
 use Rattle.cpumasks.proofs.Making.{some-mask, words-enough}
 use Rattle.cpumasks.proofs.Steps.{means-faultless}
-use Rattle.cpumasks.proofs.Same.{text-same, mask-reads-same, mask-writes-same}
+use Rattle.cpumasks.proofs.Same.{text-same, mask-reads-same}
 
 -- every set of cores below the limit has a text
 pub mask-some : (n s : ℕ) → (NamesMissing n s → ⊥) → (t : List ℕ) × MaskOf (wordsOf n) s t
@@ -29,15 +29,14 @@ faultless-below {words = words} f m h = f 19 (placeOf words (h .core)) (inr (inl
 pub mask-read-back : {n s : ℕ} (t : List ℕ) (r : Reading) → (NamesMissing n s → ⊥) → MaskOf (wordsOf n) s t → ReadsMask n t r → r ≡ Cores s
 mask-read-back {n} {s} t r none m h = mask-reads-same n t r (Cores s) h (means-faultless none (m .means), m .means)
 
--- a text without upper case that was read is written again as it was
+-- writing what was read is never refused 19: it gives the one text of its set
+pub mask-write-read : {n s : ℕ} {t before after : List ℕ} {r : Written} → ReadsMask n t (Cores s) → WritesMask n s before after r → WritesText (MaskOf (wordsOf n) s) before after r
+mask-write-read h w = w .below (faultless-below (h .0) (h .1))
+
+-- and a text without upper case comes back as it was
 pub mask-write-back : {n s : ℕ} {t before after : List ℕ} {r : Written} → ReadsMask n t (Cores s) → ((o : ℕ) → IsUpper (character t o) → ⊥)
     → WritesMask n s before after r → length t ≤ length before → Stands t before after r
-mask-write-back {n} {s} {t} {before} {after} {r} h low w room = go (w .below (faultless-below (h .0) (h .1)))
-  where
-    go : WritesText (MaskOf (wordsOf n) s) before after r → Stands t before after r
-    go x = let e = text-same (x .is) (record { means = h .1; lower = low }) in rw e at (x .room (rw e room))
-
--- two texts that read as the same set are written as the same text
-pub mask-one-text : {n s : ℕ} {t u before after after′ : List ℕ} {r q : Written} → ReadsMask n t (Cores s) → ReadsMask n u (Cores s)
-    → WritesMask n s before after r → WritesMask n s before after′ q → (r ≡ q) × (after ≡ after′)
-mask-one-text _ _ = mask-writes-same
+mask-write-back h low w room =
+    let x = mask-write-read h w in
+    let e = text-same (x .is) (record { means = h .1; lower = low }) in
+    rw e at (x .room (rw e room))

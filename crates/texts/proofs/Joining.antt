@@ -20,7 +20,7 @@ cut c [] (d ∷ y) x′ y′ v w e = absurd (w (inl (cc)))
 cut c (d ∷ x) [] x′ y′ v w e = absurd (v (inl (cc)))
 cut c (d ∷ x) (b ∷ y) x′ y′ v w e = let r = cut c x y x′ y′ (λ i. v (inr i)) (λ i. w (inr i)) (cc) in (cc, r .1)
 
-in-middle : (c : ℕ) (x y : List ℕ) → In c (x ++ (c ∷ y))
+pub in-middle : (c : ℕ) (x y : List ℕ) → In c (x ++ (c ∷ y))
 in-middle c [] y = inl refl
 in-middle c (d ∷ x) y = inr (in-middle c x y)
 
