@@ -80,7 +80,7 @@ returns-4 : tie.Need-returns-4
 returns-4 c =
     let e = c .before .before .before .before .before .before .before .before .before .before in
     let i = there (c .before .before .before .before .before .before) in
-    walk-refused {a = Unexpected} (λ y. omega arith) (no-item (read-more (e .pre .2) i (c .before .before .before .before .before .span .ensures) (c .before .before .if3 .left) (before-end (c .before .before)) .opens) (c .before .if4 .taken) (omega arith)) (c .new4 .ensures .0) (c .new4 .ensures .1)
+    walk-refused {a = Unexpected} (λ y. omega arith) (no-item (read-more (e .pre .2) i (c .before .before .before .before .before .span .ensures) (c .before .before .if3 .left) (before-end (c .before .before)) .opens) (omega (arith, c .before .if4 .taken)) (omega arith)) (c .new4 .ensures .0) (c .new4 .ensures .1)
 
 add-new-2 : tie.Need-add-new-2
 add-new-2 c = add-if4 (c .before)

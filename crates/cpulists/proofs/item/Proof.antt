@@ -25,7 +25,7 @@ new-requires c κs = search needs
 returns : tie.Need-returns
 returns c =
     let e = c .before .before .before .before .before in
-    piece-refused {a = Unexpected} (λ y. omega arith) (no-number (e .pre .2) (e .pre .1) (none-there (c .before .before .before .digits .ensures) (c .before .if1 .taken))) (c .new .ensures .0) (c .new .ensures .3)
+    piece-refused {a = Unexpected} (λ y. omega arith) (no-number (e .pre .2) (e .pre .1) (none-there (c .before .before .before .digits .ensures) (omega (arith, c .before .if1 .taken, c .before .before .before .digits .ensures .end)))) (c .new .ensures .0) (c .new .ensures .3)
 
 new-requires-2 : tie.Need-new-requires-2
 new-requires-2 c κs = search needs
@@ -34,13 +34,13 @@ new-requires-2 c κs = search needs
 number : (c : tie.Else1) → NumberAt (c .before .before .before .before .args .text .now) (c .before .before .before .before .args .at) (c .before .before .digits .ensures .digits)
 number c =
     let d = c .before .before .digits .ensures in
-    number-opens (c .before .before .before .before .pre .2) (d .digits) (d .is) (some-there d (c .if1 .left)) (d .ends)
+    number-opens (c .before .before .before .before .pre .2) (d .digits) (d .is) (some-there d (λ e. omega (arith, e, c .if1 .left))) (d .ends)
 
 returns-2 : tie.Need-returns-2
 returns-2 c =
     let e = c .before .before .before .before .before .before .before in
     let d = c .before .before .before .before .before .digits .ensures in
-    piece-refused {a = AboveLimit} (λ y. omega arith) (number-above (e .pre .2) (e .pre .1) (number (c .before .before .before)) (value-above d (c .before .if2 .taken))) (c .new2 .ensures .0) (c .new2 .ensures .3)
+    piece-refused {a = AboveLimit} (λ y. omega arith) (number-above (e .pre .2) (e .pre .1) (number (c .before .before .before)) (value-above d (omega (arith, c .before .if2 .taken)))) (c .new2 .ensures .0) (c .new2 .ensures .3)
 
 -- it is an item where no dash follows
 alone : (c : tie.Else2) → character (c .before .before .before .before .before .before .args .text .now) (c .before .before .before .before .digits .result .end) ≢ dash
@@ -48,7 +48,7 @@ alone : (c : tie.Else2) → character (c .before .before .before .before .before
     (c .before .before .before .before .digits .result .value) (c .before .before .before .before .digits .result .value) (c .before .before .before .before .digits .result .end)
 alone c m =
     let d = c .before .before .before .before .digits .ensures in
-    one-item (number (c .before .before)) (d .end) (d .within) (value-below d (omega (arith, c .if2 .left))) (c .if2 .left) m
+    one-item (number (c .before .before)) (d .end) (d .within) (value-below d (omega (arith, c .if2 .left))) (omega (arith, c .if2 .left)) m
 
 new-requires-3 : tie.Need-new-requires-3
 new-requires-3 c κs = search needs
@@ -93,7 +93,7 @@ half c =
       digits = d .digits;
       there = number (c .before .before .before .before .before);
       told = value-below d (omega (arith, below));
-      below = below;
+      below = omega (arith, below);
       joint = rw (← d .end) (c .if4 .left);
       next = omega (arith, d .end);
       within = omega (arith, before-end c);

@@ -34,7 +34,7 @@ returns-2 : tie.Need-returns-2
 returns-2 c =
     let e = c .before .before .before .before .before .before .before in
     let d = c .before .before .before .before .before .digits .ensures in
-    second-refused {a = AboveLimit} (λ y. omega arith) (second-above (e .pre .1) (second (c .before .before .before)) (value-above d (c .before .if2 .taken))) (c .new2 .ensures .0) (c .new2 .ensures .3)
+    second-refused {a = AboveLimit} (λ y. omega arith) (second-above (e .pre .1) (second (c .before .before .before)) (value-above d (omega (arith, c .before .if2 .taken)))) (c .new2 .ensures .0) (c .new2 .ensures .3)
 
 new-requires-3 : tie.Need-new-requires-3
 new-requires-3 c κs = search needs
