@@ -60,7 +60,7 @@ impl Reading {
             Reading::Refused { answer, offset } => PlainReading {
                 number: answer.number(),
                 offset,
-                set: 0,
+                set: EMPTY,
             },
         }
     }
@@ -70,6 +70,9 @@ pub struct Written {
     pub answer: Answer,
     pub length: usize,
 }
+
+// The set without a core.
+pub const EMPTY: u64 = 0;
 
 // The bits of a set, and so the most cores that a text can name.
 pub const WIDTH: u8 = 64;
