@@ -12,10 +12,11 @@ use Rattle.laws.specs.Lists.{In}
 use Rattle.texts.specs.Joined.{space, comma, dash, joined}
 use Rattle.texts.proofs.Joining.{Without, EachWithout, cut, joined-same, joined-without}
 use Rattle.decimals.specs.Decimal.{decimal}
+use Rattle.decimals.specs.Fault.{refusedWord, atWord, faultText}
 use Rattle.decimals.proofs.Spelling.{decimal-same, decimal-digits, decimal-some}
 use Rattle.dispatcher.specs.Limits.{none}
 use Rattle.lines.specs.declared.Line.{Line}
-use Rattle.lines.specs.Text.{letterOf, slotText, fieldsOf, seatsText, lineText, refusedWord, atWord, faultText}
+use Rattle.lines.specs.Text.{letterOf, slotText, fieldsOf, seatsText, lineText}
 use Rattle.lines.specs.Line.{IsLineKind}
 use Rattle.lines.proofs.Parts.{slot-dash, slot-number}
 

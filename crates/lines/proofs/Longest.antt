@@ -14,9 +14,9 @@ use Rattle.dispatcher.specs.Slots.{seatAt}
 use Rattle.dispatcher.specs.Sound.{Sound}
 use Rattle.dispatcher.specs.declared.Dispatcher.{Dispatcher}
 use Rattle.lines.specs.declared.Line.{Line}
-use Rattle.lines.specs.Text.{slotText, seatsText, faultText}
+use Rattle.lines.specs.Text.{slotText, seatsText}
 use Rattle.lines.specs.Line.{textOf}
-use Rattle.lines.proofs.Parts.{slot-dash, slot-number, line-length, event-length, report-length, fault-length}
+use Rattle.lines.proofs.Parts.{slot-dash, slot-number, line-length, event-length, report-length}
 
 -- a slot's text is one dash or at most as long as its number
 slot-longest : (k slot : ℕ) → 1 ≤ k → slot < 10 ^ k → length (slotText slot) ≤ k
@@ -69,6 +69,3 @@ line-longest l d w sound all =
     let started = slot-longest 5 (l .report .started) (omega arith) (omega arith) in
     let stopped = slot-longest 5 (l .report .stopped) (omega arith) (omega arith) in
     omega (arith, line-length l seats, event-length l, report-length (l .report), seats-longest seats many (seats-small d sound all))
-
-pub fault-longest : (n offset : ℕ) → n < 2 ^ 8 → offset < 2 ^ 64 → length (faultText n offset) ≤ 36
-fault-longest n offset a b = omega (arith, fault-length n offset, decimal-length 3 n (omega arith) (omega arith), decimal-length 20 offset (omega arith) (omega arith))

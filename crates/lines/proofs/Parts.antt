@@ -1,4 +1,4 @@
--- The parts of a line and of the line of a refused file: what they are one after the other, and how long they are together.
+-- The parts of a line: what they are one after the other, and how long they are together.
 use Prim.Native.Nat.{ℕ, _+_}
 use mathlib.Core.Path.{_≡_, _∙_, ap}
 use mathlib.Core.Logic.{_≢_}
@@ -11,7 +11,7 @@ use Rattle.decimals.specs.Decimal.{decimal}
 use Rattle.dispatcher.specs.Limits.{none}
 use Rattle.dispatcher.specs.declared.PlainReport.{PlainReport}
 use Rattle.lines.specs.declared.Line.{Line}
-use Rattle.lines.specs.Text.{eventFields, reportFields, slotText, seatsText, lineText, refusedWord, atWord, faultText}
+use Rattle.lines.specs.Text.{eventFields, reportFields, slotText, seatsText, lineText}
 
 pub slot-dash : (slot : ℕ) → slot ≡ none → slotText slot ≡ dash ∷ []
 unfolding slotText
@@ -39,10 +39,3 @@ four-length a b c d = simp length-append
 pub line-length : (l : Line) (seats : List ℕ)
     → length (lineText l seats) ≡ length (joined space (eventFields l)) + (length (eachAfter space (reportFields (l .report))) + (length (space ∷ seatsText seats) + 1))
 line-length l seats = ap length (line-pieces l seats) ∙ four-length (joined space (eventFields l)) (eachAfter space (reportFields (l .report))) (space ∷ seatsText seats) (newline ∷ [])
-
-pub fault-pieces : (n offset : ℕ) → faultText n offset ≡ refusedWord ++ ((space ∷ decimal n) ++ ((space ∷ atWord) ++ ((space ∷ decimal offset) ++ (newline ∷ []))))
-unfolding faultText
-fault-pieces n offset = simp (append-assoc, append-nil)
-
-pub fault-length : (n offset : ℕ) → length (faultText n offset) ≡ 13 + (length (decimal n) + length (decimal offset))
-fault-length n offset = rw (fault-pieces n offset) (simp length-append (omega arith))

@@ -5,12 +5,13 @@ use mathlib.Core.Logic.{_≢_}
 use mathlib.Core.List.{List, [], _∷_, _++_}
 use lib.ListN.{length, take, drop}
 use Rattle.laws.specs.Answering.{Refusal, _when_, Answers}
+use Rattle.decimals.specs.Fault.{faultText}
 use Rattle.dispatcher.specs.Answers.{numberOf}
 use Rattle.dispatcher.specs.Refusals.{IsUnsound}
 use Rattle.dispatcher.specs.declared.Dispatcher.{Dispatcher}
 use Rattle.lines.specs.declared.Line.{Line}
 use Rattle.lines.specs.declared.Written.{Written}
-use Rattle.lines.specs.Text.{lineText, faultText}
+use Rattle.lines.specs.Text.{lineText}
 
 abbrev pub IsLineKind : ℕ → Type 0
 IsLineKind kind = kind ≤ 3

@@ -36,13 +36,3 @@ seatsText seats = joined comma (map slotText seats)
 -- fields one space apart, the seats last
 unfoldable pub lineText : Line → List ℕ → List ℕ
 lineText l seats = joined space (fieldsOf l ++ (seatsText seats ∷ [])) ++ (newline ∷ [])
-
--- `refused N at OFFSET`
-abbrev pub refusedWord : List ℕ
-refusedWord = 114 ∷ 101 ∷ 102 ∷ 117 ∷ 115 ∷ 101 ∷ 100 ∷ []
-
-abbrev pub atWord : List ℕ
-atWord = 97 ∷ 116 ∷ []
-
-unfoldable pub faultText : ℕ → ℕ → List ℕ
-faultText n offset = joined space (refusedWord ∷ decimal n ∷ atWord ∷ decimal offset ∷ []) ++ (newline ∷ [])

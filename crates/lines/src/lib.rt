@@ -6,9 +6,8 @@ ghost use lib.ListN.{length, take};
 ghost use Rattle.laws.specs.Answering.{_when_};
 ghost use Rattle.texts.specs.Put.{Puts};
 ghost use Rattle.texts.specs.Joined.{space, eachAfter, joined};
-ghost use Rattle.decimals.specs.Decimal.{decimal};
 ghost use Rattle.dispatcher.specs.Limits.{LegalCount};
-ghost use Rattle.lines.specs.Text.{letterOf, slotText, eventFields, reportFields, seatsText, lineText, faultText};
+ghost use Rattle.lines.specs.Text.{letterOf, slotText, eventFields, reportFields, seatsText, lineText};
 ghost use Rattle.lines.specs.Line.{IsLineKind, IsLong, Stands, Writes, WritesFault};
 use dispatcher::Answer;
 use dispatcher::Dispatcher;
@@ -28,7 +27,7 @@ impl Line {
     pub const LONGEST: usize = 231;
 
     // No line of a refused file has more.
-    pub const LONGEST_FAULT: usize = 36;
+    pub const LONGEST_FAULT: usize = decimals::LONGEST_FAULT;
 }
 
 pub struct Written {
@@ -50,15 +49,6 @@ fn letter(kind: u8) -> u8
         return b'B';
     }
     b'D'
-}
-
-// A space, and a number.
-fn put_number(text: &mut [u8], at: usize, n: u64) -> usize
-    requires { ⌜ at + length (space ∷ decimal n) ≤ length (now text) ⌝ }
-    ensures { λ r. ⌜ Puts (space ∷ decimal n) at (now (text .entry)) (now (text .exit)) r ⌝ }
-{
-    let next = texts::put_byte(text, at, b' ');
-    decimals::put(text, next, n)
 }
 
 // A character, and a slot or `-`.
@@ -95,7 +85,7 @@ fn put_event(text: &mut [u8], line: Line) -> usize
     let number = decimals::put(text, 0, line.number as u64);
     let gap = texts::put_byte(text, number, b' ');
     let kind = texts::put_byte(text, gap, letter(line.kind));
-    put_number(text, kind, line.slot as u64)
+    decimals::put_spaced(text, kind, line.slot as u64)
 }
 
 // Each field of the report after a space.
@@ -103,8 +93,8 @@ fn put_report(text: &mut [u8], at: usize, report: PlainReport) -> usize
     requires { ⌜ at + length (eachAfter space (reportFields report)) ≤ length (now text) ⌝ }
     ensures { λ r. ⌜ Puts (eachAfter space (reportFields report)) at (now (text .entry)) (now (text .exit)) r ⌝ }
 {
-    let answer = put_number(text, at, report.number as u64);
-    let moves = put_number(text, answer, report.moves as u64);
+    let answer = decimals::put_spaced(text, at, report.number as u64);
+    let moves = decimals::put_spaced(text, answer, report.moves as u64);
     let started = put_slot(text, moves, b' ', report.started);
     put_slot(text, started, b' ', report.stopped)
 }
@@ -160,24 +150,11 @@ pub fn write(line: Line, d: Dispatcher, buffer: &mut [u8]) -> Written
     hand_over(&text, size, buffer)
 }
 
-fn put_fault(text: &mut [u8], number: u8, offset: usize) -> usize
-    requires { ⌜ length (faultText number offset) ≤ length (now text) ⌝ }
-    ensures { λ r. ⌜ Puts (faultText number offset) 0 (now (text .entry)) (now (text .exit)) r ⌝ }
-{
-    texts::copy(b"refused", 7, text);
-    let answer = put_number(text, 7, number as u64);
-    let gap = texts::put_byte(text, answer, b' ');
-    let a = texts::put_byte(text, gap, b'a');
-    let t = texts::put_byte(text, a, b't');
-    let place = put_number(text, t, offset as u64);
-    texts::put_byte(text, place, b'\n')
-}
-
 // The one line of a refused file.
 pub fn write_fault(number: u8, offset: usize, buffer: &mut [u8]) -> Written
     ensures { λ r. ⌜ WritesFault number offset (now (buffer .entry)) (now (buffer .exit)) r ⌝ }
 {
     let mut text = [0u8; Line::LONGEST_FAULT];
-    let size = put_fault(&mut text, number, offset);
+    let size = decimals::put_fault(&mut text, number, offset);
     hand_over(&text, size, buffer)
 }

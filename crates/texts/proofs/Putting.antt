@@ -2,7 +2,7 @@
 use Prim.Native.Nat.{ℕ, _+_, _≤_, _<_}
 use mathlib.Core.Path.{_≡_, refl, sym, _∙_}
 use mathlib.Core.List.{List, [], _∷_, _++_, append-assoc}
-use native.Mathlib.Nat.{add-assoc, add-zero}
+use native.Mathlib.Nat.{zero-add, add-assoc, add-zero}
 use native.Mathlib.Numerals.{add-one}
 use native.Mathlib.Omega.{arith}
 use lib.ListN.{length, take, drop, set, take-append-drop, length-append, length-drop}
@@ -67,6 +67,15 @@ pub puts-taken : {t : List ℕ} {at r : ℕ} {x y : List ℕ} → Puts t at x y 
 unfolding putAt
 puts-taken {t} {at} {x = x} p room =
     rw (p .bytes, p .next, ← append-assoc (take at x) t) (take-at (take at x ++ t) (drop (at + length t) x) (at + length t) (front-length x at t room))
+
+-- at the start
+pub puts-front : {t x y : List ℕ} → y ≡ t ++ drop (length t) x → Puts t 0 x y (length t)
+unfolding putAt
+puts-front {t} e = record { bytes = rw (zero-add (length t)) e; next = omega arith }
+
+pub puts-read : {t x y : List ℕ} {r : ℕ} → Puts t 0 x y r → take r y ≡ t
+unfolding putAt
+puts-read {t} {x} p = rw (p .bytes, p .next) (take-at t (drop (0 + length t) x) (0 + length t) (omega arith))
 
 pub puts-same : {t : List ℕ} {at r q : ℕ} {x y z : List ℕ} → Puts t at x y r → Puts t at x z q → (y ≡ z) × (r ≡ q)
 puts-same p q = (p .bytes ∙ sym (q .bytes), p .next ∙ sym (q .next))

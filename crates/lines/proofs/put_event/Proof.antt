@@ -28,11 +28,11 @@ put-byte-requires-2 c κs =
     let e = c .before .before .before .before .before .before .before .before .before .before .before .before in
     omega (arith, event-length (e .args .line))
 
-cast-put-number : tie.Need-cast-put-number
-cast-put-number c = search needs
+cast-put-spaced : tie.Need-cast-put-spaced
+cast-put-spaced c = search needs
 
-put-number-requires : tie.Need-put-number-requires
-put-number-requires c κs =
+put-spaced-requires : tie.Need-put-spaced-requires
+put-spaced-requires c κs =
     let e = c .before .before .before .before .before .before .before .before .before .before .before .before .before .before .before .before .before in
     omega (arith, event-length (e .args .line))
 
@@ -46,7 +46,7 @@ returns c =
     let first = second .before .before .before .before in
     puts-piece
     (first .put .ensures)
-    (puts-piece (second .put-byte .ensures) (puts-piece (rw (third .before .letter .ensures) at (third .put-byte2 .ensures)) (λ _. puts-last (c .before .before .put-number .ensures))))
+    (puts-piece (second .put-byte .ensures) (puts-piece (rw (third .before .letter .ensures) at (third .put-byte2 .ensures)) (λ _. puts-last (c .before .before .put-spaced .ensures))))
     (omega (arith, first .before .before .before .before .pre .1))
 
 pub put-event-spec : {M : Type 1} → statement M
@@ -58,7 +58,7 @@ put-event-spec =
     put-byte-requires
     letter-requires
     put-byte-requires-2
-    cast-put-number
-    put-number-requires
+    cast-put-spaced
+    put-spaced-requires
     same-length
     returns)

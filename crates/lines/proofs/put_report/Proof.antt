@@ -7,17 +7,17 @@ use Rattle.lines.proofs.Pieces.{puts-last}
 use Rattle.lines.proofs.put_report.Statement.{statement}
 use Rattle.lines.proofs.put_report.Tie as tie
 
-cast-put-number : tie.Need-cast-put-number
-cast-put-number c = search needs
+cast-put-spaced : tie.Need-cast-put-spaced
+cast-put-spaced c = search needs
 
-put-number-requires : tie.Need-put-number-requires
-put-number-requires c κs = omega (arith, report-length (c .before .before .before .args .report))
+put-spaced-requires : tie.Need-put-spaced-requires
+put-spaced-requires c κs = omega (arith, report-length (c .before .before .before .args .report))
 
-cast-put-number-2 : tie.Need-cast-put-number-2
-cast-put-number-2 c = search needs
+cast-put-spaced-2 : tie.Need-cast-put-spaced-2
+cast-put-spaced-2 c = search needs
 
-put-number-requires-2 : tie.Need-put-number-requires-2
-put-number-requires-2 c κs =
+put-spaced-requires-2 : tie.Need-put-spaced-requires-2
+put-spaced-requires-2 c κs =
     let e = c .before .before .before .before .before .before .before .before in
     omega (arith, report-length (e .args .report))
 
@@ -40,18 +40,18 @@ returns c =
     let second = third .before .before .before .before in
     let first = second .before .before .before .before .before in
     puts-piece
-    (first .put-number .ensures)
-    (puts-piece (second .put-number2 .ensures) (puts-piece (third .put-slot .ensures) (λ _. puts-last (c .before .before .put-slot2 .ensures))))
+    (first .put-spaced .ensures)
+    (puts-piece (second .put-spaced2 .ensures) (puts-piece (third .put-slot .ensures) (λ _. puts-last (c .before .before .put-slot2 .ensures))))
     (first .before .before .before .before .pre)
 
 pub put-report-spec : {M : Type 1} → statement M
 put-report-spec =
     tie.close
     (tie.spec
-    cast-put-number
-    put-number-requires
-    cast-put-number-2
-    put-number-requires-2
+    cast-put-spaced
+    put-spaced-requires
+    cast-put-spaced-2
+    put-spaced-requires-2
     put-slot-requires
     put-slot-requires-2
     same-length

@@ -5,10 +5,10 @@ use native.Mathlib.Omega.{arith}
 use lib.ListN.{length, length-map}
 use borrow.Author.Needs.{needs}
 use borrow.Author.Tests.{not-true, not-false}
+use Rattle.texts.proofs.Putting.{puts-read}
 use Rattle.dispatcher.specs.Limits.{coreLimit}
 use Rattle.dispatcher.specs.Sound.{Sound}
 use Rattle.lines.specs.Line.{textOf}
-use Rattle.lines.proofs.Pieces.{puts-read}
 use Rattle.lines.proofs.Longest.{Wide, line-longest}
 use Rattle.lines.proofs.Standing.{writes-unsound, writes-bad-kind, writes-handed}
 use Rattle.lines.proofs.write.Statement.{statement}

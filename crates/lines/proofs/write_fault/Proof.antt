@@ -3,9 +3,9 @@ use Prim.Native.Nat.{_≤_}
 use native.Mathlib.Omega.{arith}
 use lib.ListN.{length}
 use borrow.Author.Needs.{needs}
-use Rattle.lines.specs.Text.{faultText}
-use Rattle.lines.proofs.Pieces.{puts-read}
-use Rattle.lines.proofs.Longest.{fault-longest}
+use Rattle.texts.proofs.Putting.{puts-read}
+use Rattle.decimals.specs.Fault.{faultText}
+use Rattle.decimals.proofs.Fault.{fault-longest}
 use Rattle.lines.proofs.write_fault.Statement.{statement}
 use Rattle.lines.proofs.write_fault.Tie as tie
 

@@ -1,9 +1,9 @@
--- `put_number` meets its contract: a space, and the number after it.
+-- `put_spaced` meets its contract: a space, and the number after it.
 use native.Mathlib.Omega.{arith}
 use borrow.Author.Needs.{needs}
 use Rattle.texts.proofs.Putting.{puts-then}
-use Rattle.lines.proofs.put_number.Statement.{statement}
-use Rattle.lines.proofs.put_number.Tie as tie
+use Rattle.decimals.proofs.put_spaced.Statement.{statement}
+use Rattle.decimals.proofs.put_spaced.Tie as tie
 
 put-byte-requires : tie.Need-put-byte-requires
 put-byte-requires c κs = search needs
@@ -19,5 +19,5 @@ returns c =
     let space = c .before .before .before .before .before .before in
     puts-then (space .put-byte .ensures) (c .before .before .put .ensures) (omega arith)
 
-pub put-number-spec : {M : Type 1} → statement M
-put-number-spec = tie.close (tie.spec put-byte-requires put-requires same-length returns)
+pub put-spaced-spec : {M : Type 1} → statement M
+put-spaced-spec = tie.close (tie.spec put-byte-requires put-requires same-length returns)

@@ -3,12 +3,11 @@ use mathlib.Core.Path.{ap}
 use native.Mathlib.Omega.{arith}
 use lib.ListN.{length}
 use borrow.Author.Needs.{needs}
-use Rattle.lines.specs.Text.{refusedWord}
-use Rattle.lines.proofs.Parts.{fault-pieces, fault-length}
-use Rattle.texts.proofs.Putting.{puts-piece}
-use Rattle.lines.proofs.Pieces.{puts-front}
-use Rattle.lines.proofs.put_fault.Statement.{statement}
-use Rattle.lines.proofs.put_fault.Tie as tie
+use Rattle.decimals.specs.Fault.{refusedWord}
+use Rattle.decimals.proofs.Fault.{fault-pieces, fault-length}
+use Rattle.texts.proofs.Putting.{puts-front, puts-piece}
+use Rattle.decimals.proofs.put_fault.Statement.{statement}
+use Rattle.decimals.proofs.put_fault.Tie as tie
 
 slice-aggregate-copy : tie.Need-slice-aggregate-copy
 slice-aggregate-copy c = search needs
@@ -18,8 +17,8 @@ copy-requires c κs =
     let e = c .before .before .before in
     (omega arith, omega (arith, fault-length (e .args .number) (e .args .offset)))
 
-put-number-requires : tie.Need-put-number-requires
-put-number-requires c κs =
+put-spaced-requires : tie.Need-put-spaced-requires
+put-spaced-requires c κs =
     let e = c .before .before .before .before .before .before .before in
     omega (arith, fault-length (e .args .number) (e .args .offset))
 
@@ -38,8 +37,8 @@ put-byte-requires-3 c κs =
     let e = c .before .before .before .before .before .before .before .before .before .before .before .before .before .before .before .before .before .before .before in
     omega (arith, fault-length (e .args .number) (e .args .offset))
 
-put-number-requires-2 : tie.Need-put-number-requires-2
-put-number-requires-2 c κs =
+put-spaced-requires-2 : tie.Need-put-spaced-requires-2
+put-spaced-requires-2 c κs =
     let e = c .before .before .before .before .before .before .before .before .before .before .before .before .before .before .before .before .before .before .before .before .before .before .before in
     omega (arith, fault-length (e .args .number) (e .args .offset))
 
@@ -65,12 +64,12 @@ returns c =
     (puts-piece
     (puts-front {t = refusedWord} (word .copy .ensures))
     (puts-piece
-    (number .put-number .ensures)
+    (number .put-spaced .ensures)
     (puts-piece
     (gap .put-byte .ensures)
     (puts-piece
     (a .put-byte2 .ensures)
-    (puts-piece (t .put-byte3 .ensures) (puts-piece (offset .put-number2 .ensures) (λ _. c .before .before .put-byte4 .ensures))))))
+    (puts-piece (t .put-byte3 .ensures) (puts-piece (offset .put-spaced2 .ensures) (λ _. c .before .before .put-byte4 .ensures))))))
     (omega (arith, ap length pieces)))
 
 pub put-fault-spec : {M : Type 1} → statement M
@@ -79,11 +78,11 @@ put-fault-spec =
     (tie.spec
     slice-aggregate-copy
     copy-requires
-    put-number-requires
+    put-spaced-requires
     put-byte-requires
     put-byte-requires-2
     put-byte-requires-3
-    put-number-requires-2
+    put-spaced-requires-2
     put-byte-requires-4
     same-length
     returns)
