@@ -53,7 +53,7 @@ module _ {n : ℕ} {t : List ℕ} (f : Faultless (listFaults n t)) where
   list-below [] h e c k = absurd k
   list-below (i ∷ items) h e c k = items-below i items 0 h comma-start e c k
 
-  faultless-below : {s : ℕ} → MeansList t s → NamesMissing n s → ⊥
+  pub faultless-below : {s : ℕ} → MeansList t s → NamesMissing n s → ⊥
   faultless-below m h = omega (arith, h .missing, list-below (m .items) (m .each) (m .is) (h .core) (m .cores (h .core) .yes (h .named)))
 
 -- writing what was read is never refused 19: it gives the one text of its set

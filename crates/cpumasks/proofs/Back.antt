@@ -23,7 +23,7 @@ pub mask-some : (n s : ℕ) → (NamesMissing n s → ⊥) → (t : List ℕ) ×
 mask-some n s none = some-mask (wordsOf n) s (λ h. none (words-enough h))
 
 -- the set that a text without a fault means has no core at or above the limit
-faultless-below : {n words s : ℕ} {t : List ℕ} → Faultless (maskFaults n words t) → MeansMask words t s → NamesMissing n s → ⊥
+pub faultless-below : {n words s : ℕ} {t : List ℕ} → Faultless (maskFaults n words t) → MeansMask words t s → NamesMissing n s → ⊥
 faultless-below {words = words} f m h = f 19 (placeOf words (h .core)) (inr (inl (refl, record { core = h .core; there = m .cores (h .core) .yes (h .named); at = refl; above = h .missing })))
 
 pub mask-read-back : {n s : ℕ} (t : List ℕ) (r : Reading) → (NamesMissing n s → ⊥) → MaskOf (wordsOf n) s t → ReadsMask n t r → r ≡ Cores s
