@@ -34,12 +34,14 @@ extern "C" {
 #define MAKXIRUND_EVENTS 16000 /* the most events that an event file may have */
 #define MAKXIRUND_LONGEST_LINE 231 /* no line has more bytes, its newline included */
 #define MAKXIRUND_LONGEST_FAULT 36 /* nor has the one line of a refused file */
+#define MAKXIRUND_LIST_ROOM 192 /* bytes enough for every List text that is written .. */
+#define MAKXIRUND_MASK_ROOM 17 /* .. and for every Mask text */
 
 /* ---- answers ---- */
 
 enum makxirund_number {
     MAKXIRUND_DONE = 0,
-    MAKXIRUND_NOT_SOUND = 1, /* the dispatcher is not sound: all calls but fresh and the file reader */
+    MAKXIRUND_NOT_SOUND = 1, /* the dispatcher is not sound: all calls that are lent one, but fresh */
     MAKXIRUND_CORE_COUNT = 2, /* core count not 1 to 32: fresh, file reader */
     MAKXIRUND_SLOT_ABOVE = 3, /* slot above 127: create, delete, wake, block, load */
     MAKXIRUND_SLOT_IN_USE = 4, /* create, load */
@@ -54,9 +56,13 @@ enum makxirund_number {
     MAKXIRUND_BYTES_AFTER = 13, /* bytes after the last event: file reader */
     MAKXIRUND_BAD_KIND = 14, /* event kind not 1 to 3: file reader; not 0 to 3: line writer */
     MAKXIRUND_LINE_LONG = 15, /* the line is longer than the buffer: line writer */
-    MAKXIRUND_EVENT_COUNT = 16 /* more than 16,000 events: file reader */
+    MAKXIRUND_EVENT_COUNT = 16, /* more than 16,000 events: file reader */
+    MAKXIRUND_UNEXPECTED = 17, /* unexpected character or end: readers of core sets */
+    MAKXIRUND_BACKWARD = 18, /* range that runs backward: List reader */
+    MAKXIRUND_ABOVE_LIMIT = 19, /* core at or above the limit: readers and writers of core sets */
+    MAKXIRUND_OUTPUT_SHORT = 20 /* the text is longer than the buffer: writers of core sets */
 };
-/* Where several apply the lowest is given; a file is judged byte by byte from its start. */
+/* Where several apply the lowest is given; a file or a text is judged byte by byte from its start. */
 
 /* ---- structs: 255 is MAKXIRUND_NONE ---- */
 
@@ -125,7 +131,14 @@ struct makxirund_line {
 
 struct makxirund_written {
     uint8_t number;
-    size_t length; /* the bytes written, newline included; 0 where refused */
+    size_t length; /* the bytes written, a line's newline included; 0 where refused */
+};
+
+/* What a reader of core sets says: number 0, offset 0 and the set, or a refusal, its offset and the empty set. */
+struct makxirund_reading {
+    uint8_t number;
+    size_t offset;
+    uint64_t set; /* bit k for core k */
 };
 
 /* ---- the layout that the library was built with: place and size of each field ---- */
@@ -178,6 +191,10 @@ MAKXIRUND_AT(makxirund_line, report, 8, 6);
 MAKXIRUND_SIZE(makxirund_written, 16);
 MAKXIRUND_AT(makxirund_written, number, 0, 1);
 MAKXIRUND_AT(makxirund_written, length, 8, 8);
+MAKXIRUND_SIZE(makxirund_reading, 24);
+MAKXIRUND_AT(makxirund_reading, number, 0, 1);
+MAKXIRUND_AT(makxirund_reading, offset, 8, 8);
+MAKXIRUND_AT(makxirund_reading, set, 16, 8);
 
 /* ---- calls on the dispatcher that the kernel holds ---- */
 
@@ -247,6 +264,41 @@ struct makxirund_written makxirund_line(
 /* Writes `refused NUMBER at OFFSET`, the one line of a refused file. Refused: 15. */
 struct makxirund_written makxirund_fault(
     uint8_t number, size_t offset, uint8_t *buffer, size_t room);
+
+/* ---- core sets, in the List and Mask formats of Linux cpuset(7) ---- */
+
+/*
+ * Cores are numbered from 0, and those below the limit may be named. A limit is 1 to 64; one above 64
+ * counts as 64, and 0 allows no core. A text is its characters alone: no white space, no newline, no
+ * 0 at its end.
+ */
+
+/*
+ * The set that a List text means, as 0-4,9: numbers and ranges with commas between, in any order;
+ * they may overlap and have leading zeros, and the empty text is the empty set. Or the text's first
+ * fault: 17 at the character, or at the text's length where it ends too early; 18 at the first digit
+ * of the range's second number; 19 at the number's first digit.
+ */
+struct makxirund_reading makxirund_read_list(const uint8_t *text, size_t length, uint8_t limit);
+
+/*
+ * The set that a Mask text means, as 00000001,8000021f: eight hexadecimal digits of either case to a
+ * word of 32 cores, the highest word first, commas between, and exactly as many words as the limit
+ * needs: one up to 32, two above, none for 0. Or its first fault: 17 as above, 19 at the digit with
+ * the core's bit.
+ */
+struct makxirund_reading makxirund_read_mask(const uint8_t *text, size_t length, uint8_t limit);
+
+/*
+ * Writes the one List text of a set to the buffer's start: ascending, each longest run of two or more
+ * as a range. Refused: 19, 20; then no byte changes, and none ever changes after the text.
+ */
+struct makxirund_written makxirund_write_list(
+    uint64_t set, uint8_t limit, uint8_t *buffer, size_t room);
+
+/* Writes the one Mask text of a set in the same way, in lower case. Refused: 19, 20. */
+struct makxirund_written makxirund_write_mask(
+    uint64_t set, uint8_t limit, uint8_t *buffer, size_t room);
 
 #ifdef __cplusplus
 }

@@ -1,7 +1,7 @@
 /*
  * Replays document 01's listing through the C interface, and before that holds the header's structs
- * against the library: each field is written on one side and read on the other. Ends with status 1
- * at the first difference.
+ * against the library, each field written on one side and read on the other, and core sets read and
+ * written against their texts. Ends with status 1 at the first difference.
  */
 #include <stdio.h>
 #include <stdlib.h>
@@ -186,6 +186,108 @@ static void check_lines(void)
     EXPECT(margins_kept());
 }
 
+/* ---- core sets ---- */
+
+static struct makxirund_reading read_list(const char *text, uint8_t limit)
+{
+    return makxirund_read_list((const uint8_t *)text, strlen(text), limit);
+}
+
+static struct makxirund_reading read_mask(const char *text, uint8_t limit)
+{
+    return makxirund_read_mask((const uint8_t *)text, strlen(text), limit);
+}
+
+static int is_set(struct makxirund_reading r, uint64_t set)
+{
+    return r.number == MAKXIRUND_DONE && r.offset == 0 && r.set == set;
+}
+
+static int is_fault(struct makxirund_reading r, unsigned number, size_t offset)
+{
+    return r.number == number && r.offset == offset && r.set == 0;
+}
+
+static void check_set_readers(void)
+{
+    EXPECT(is_set(read_list("", 32), 0));
+    EXPECT(is_set(read_list("0-4,9", 10), 0x21F));
+    EXPECT(is_set(read_list("63,007,3-3,2-4", 64), 0x800000000000009Cu));
+    EXPECT(is_fault(read_list("1,", 32), MAKXIRUND_UNEXPECTED, 2));
+    EXPECT(is_fault(read_list("1-2-3", 32), MAKXIRUND_UNEXPECTED, 3));
+    EXPECT(is_fault(read_list("5-3x", 32), MAKXIRUND_BACKWARD, 2));
+    EXPECT(is_fault(read_list("0,0040", 32), MAKXIRUND_ABOVE_LIMIT, 2));
+
+    EXPECT(is_set(read_mask("8000021F", 32), 0x8000021Fu));
+    EXPECT(is_set(read_mask("00000001,8000021f", 64), 0x18000021Fu));
+    EXPECT(is_fault(read_mask("", 32), MAKXIRUND_UNEXPECTED, 0));
+    EXPECT(is_fault(read_mask("0000021g", 32), MAKXIRUND_UNEXPECTED, 7));
+    EXPECT(is_fault(read_mask("0000021f", 64), MAKXIRUND_UNEXPECTED, 8));
+    EXPECT(is_fault(read_mask("00000001,8000021f", 32), MAKXIRUND_UNEXPECTED, 8));
+    EXPECT(is_fault(read_mask("0000001f", 4), MAKXIRUND_ABOVE_LIMIT, 6));
+
+    /* limits at both ends */
+    EXPECT(is_fault(read_list("0", 0), MAKXIRUND_ABOVE_LIMIT, 0));
+    EXPECT(is_set(read_list("63", 255), 0x8000000000000000u));
+    EXPECT(is_fault(read_list("64", 255), MAKXIRUND_ABOVE_LIMIT, 0));
+    EXPECT(is_set(read_mask("", 0), 0));
+    EXPECT(is_set(read_mask("80000000,00000000", 255), 0x8000000000000000u));
+}
+
+typedef struct makxirund_written writer(uint64_t set, uint8_t limit, uint8_t *buffer, size_t room);
+
+/* The buffer's bytes from a place on are as they were lent. */
+static int kept_from(const uint8_t *buffer, size_t size, size_t place)
+{
+    while (place < size && buffer[place] == PATTERN)
+        place++;
+    return place == size;
+}
+
+/* The text with room to spare and with none, and refused with one byte less. */
+static void check_set_text(writer *write, uint64_t set, uint8_t limit, const char *text)
+{
+    uint8_t buffer[MAKXIRUND_LIST_ROOM];
+    const size_t length = strlen(text);
+    for (size_t spare = 0; spare <= sizeof buffer - length; spare++) {
+        memset(buffer, PATTERN, sizeof buffer);
+        EXPECT(same_text(write(set, limit, buffer, length + spare), buffer, text));
+        EXPECT(kept_from(buffer, sizeof buffer, length));
+    }
+    if (length == 0)
+        return;
+    memset(buffer, PATTERN, sizeof buffer);
+    const struct makxirund_written w = write(set, limit, buffer, length - 1);
+    EXPECT(w.number == MAKXIRUND_OUTPUT_SHORT && w.length == 0);
+    EXPECT(kept_from(buffer, sizeof buffer, 0));
+}
+
+/* A core at the limit: refused before a short buffer is, and no byte changes. */
+static void check_set_above(writer *write)
+{
+    uint8_t buffer[MAKXIRUND_LIST_ROOM];
+    memset(buffer, PATTERN, sizeof buffer);
+    for (size_t room = 0; room <= sizeof buffer; room++) {
+        const struct makxirund_written w = write(0x100000000u, 32, buffer, room);
+        EXPECT(w.number == MAKXIRUND_ABOVE_LIMIT && w.length == 0);
+        EXPECT(kept_from(buffer, sizeof buffer, 0));
+    }
+}
+
+static void check_set_writers(void)
+{
+    check_set_text(makxirund_write_list, 0, 32, "");
+    check_set_text(makxirund_write_list, 0x80000000000002CFu, 64, "0-3,6-7,9,63");
+    check_set_text(makxirund_write_list, UINT64_MAX, 255, "0-63");
+    check_set_above(makxirund_write_list);
+
+    check_set_text(makxirund_write_mask, 0, 32, "00000000");
+    check_set_text(makxirund_write_mask, 0xABCDEF0012345678u, 64, "abcdef00,12345678");
+    EXPECT(strlen("abcdef00,12345678") == MAKXIRUND_MASK_ROOM);
+    check_set_text(makxirund_write_mask, 0, 0, "");
+    check_set_above(makxirund_write_mask);
+}
+
 /* ---- document 01's listing ---- */
 
 static const uint8_t file[] = {0x03, 0x04, 0x00, 0x32, 0x03, 0x00, 0x00, 0x00, 0x01, 0x28, 0x06, 0x00, 0x00, 0x00, 0x02,
@@ -253,6 +355,8 @@ int main(void)
     check_delete();
     check_load();
     check_lines();
+    check_set_readers();
+    check_set_writers();
     replay_listing();
     return 0;
 }

@@ -25,8 +25,15 @@ use Rattle.files.proofs.Same.{reads-same, record-same, event-same}
 use Rattle.lines.specs.Line.{Stands, Writes, WritesFault}
 use Rattle.lines.specs.declared.Line.{Line}
 use Rattle.lines.proofs.Same.{stands-same}
+use Rattle.cpusets.specs.Reading.{plainOf as plainSet}
+use Rattle.cpusets.specs.declared.PlainReading.{PlainReading}
+use Rattle.cpulists.specs.Promise.{ReadsList, WritesList}
+use Rattle.cpulists.proofs.Same.{list-reads-same, list-writes-same}
+use Rattle.cpumasks.specs.Promise.{ReadsMask, WritesMask}
+use Rattle.cpumasks.proofs.Same.{mask-reads-same, mask-writes-same}
 use Rattle.makxirund.specs.InPlace.{InPlace, plainLoad, LoadsInPlace}
 use Rattle.makxirund.specs.Plain.{plainReading, plainRecord, plainEvent, plainWritten, InPlain}
+use Rattle.makxirund.specs.CoreSets.{plainText}
 use Rattle.makxirund.specs.declared.PlainLoadReport.{PlainLoadReport}
 use Rattle.makxirund.specs.declared.PlainLayout.{PlainLayout}
 use Rattle.makxirund.specs.declared.PlainRecord.{PlainRecord}
@@ -75,12 +82,17 @@ record-found-same {b} {i} = in-plain-same (record-same b i)
 pub event-found-same : {b : List ℕ} {i : ℕ} {r r′ : PlainEvent} → InPlain (ReadsEvent b i) plainEvent r → InPlain (ReadsEvent b i) plainEvent r′ → r ≡ r′
 event-found-same {b} {i} = in-plain-same (event-same b i)
 
--- a line or the line of a fault: the answer, and every byte of the buffer
+-- what was said, and every byte of a lent buffer
+in-plain-bytes-same : {A B : Type 0} {P P′ : A → Type 0} {plain : A → B} {after after′ : List ℕ} {r r′ : B}
+    → ((a b : A) → P a → P′ b → (a ≡ b) × (after ≡ after′)) → InPlain P plain r → InPlain P′ plain r′ → (r ≡ r′) × (after ≡ after′)
+in-plain-bytes-same {plain = plain} one x y =
+    let same = one (x .said) (y .said) (x .promised) (y .promised) in
+    (x .told ∙ ap plain (same .0) ∙ sym (y .told), same .1)
+
+-- a line or the line of a fault
 pub written-same : {rs : List Refusal} {text before after after′ : List ℕ} {r r′ : PlainWritten}
     → InPlain (Stands rs text before after) plainWritten r → InPlain (Stands rs text before after′) plainWritten r′ → (r ≡ r′) × (after ≡ after′)
-written-same x y =
-    let same = stands-same (x .promised) (y .promised) in
-    (x .told ∙ ap plainWritten (same .0) ∙ sym (y .told), same .1)
+written-same = in-plain-bytes-same (λ a b. stands-same)
 
 pub line-same : (l : Line) (d : Dispatcher) {before after after′ : List ℕ} {r r′ : PlainWritten}
     → InPlain (Writes l d before after) plainWritten r → InPlain (Writes l d before after′) plainWritten r′ → (r ≡ r′) × (after ≡ after′)
@@ -89,3 +101,19 @@ line-same l d = written-same
 pub fault-same : (n offset : ℕ) {before after after′ : List ℕ} {r r′ : PlainWritten}
     → InPlain (WritesFault n offset before after) plainWritten r → InPlain (WritesFault n offset before after′) plainWritten r′ → (r ≡ r′) × (after ≡ after′)
 fault-same n offset = written-same
+
+-- ---- core sets
+
+pub read-list-same : {n : ℕ} {t : List ℕ} {r r′ : PlainReading} → InPlain (ReadsList n t) plainSet r → InPlain (ReadsList n t) plainSet r′ → r ≡ r′
+read-list-same {n} {t} = in-plain-same (list-reads-same n t)
+
+pub read-mask-same : {n : ℕ} {t : List ℕ} {r r′ : PlainReading} → InPlain (ReadsMask n t) plainSet r → InPlain (ReadsMask n t) plainSet r′ → r ≡ r′
+read-mask-same {n} {t} = in-plain-same (mask-reads-same n t)
+
+pub write-list-same : {n s : ℕ} {before after after′ : List ℕ} {r r′ : PlainWritten}
+    → InPlain (WritesList n s before after) plainText r → InPlain (WritesList n s before after′) plainText r′ → (r ≡ r′) × (after ≡ after′)
+write-list-same = in-plain-bytes-same (λ a b. list-writes-same)
+
+pub write-mask-same : {n s : ℕ} {before after after′ : List ℕ} {r r′ : PlainWritten}
+    → InPlain (WritesMask n s before after) plainText r → InPlain (WritesMask n s before after′) plainText r′ → (r ≡ r′) × (after ≡ after′)
+write-mask-same = in-plain-bytes-same (λ a b. mask-writes-same)

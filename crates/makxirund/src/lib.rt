@@ -1,5 +1,5 @@
-// The library for C and Rust: every call in place on the dispatcher that the kernel holds, the soundness check, the file reader and the line writer.
-// Each does what the function by value does, and tells it in plain numbers.
+// The library for C and Rust: every call in place on the dispatcher that the kernel holds, the soundness check, the file reader, the line writer, and the
+// readers and writers of core sets. Each does what the function by value does, and tells it in plain numbers.
 ghost use mathlib.Core.List.{[], _∷_};
 ghost use mathlib.Core.Path.{_≡_};
 ghost use Rattle.laws.specs.Answering.{_when_, Answers};
@@ -12,9 +12,15 @@ ghost use Rattle.deletion.specs.Delete.{Deletes};
 ghost use Rattle.boot.specs.Load.{Loads};
 ghost use Rattle.files.specs.Reading.{Reads, ReadsRecord, ReadsEvent};
 ghost use Rattle.lines.specs.Line.{Writes, WritesFault};
+ghost use Rattle.cpusets.specs.Limit.{coresOf};
+ghost use Rattle.cpusets.specs.Reading.{plainOf};
+ghost use Rattle.cpulists.specs.Promise.{ReadsList, WritesList};
+ghost use Rattle.cpumasks.specs.Promise.{ReadsMask, WritesMask};
 ghost use Rattle.makxirund.specs.InPlace.{plainLoad, InPlace, LoadsInPlace};
 ghost use Rattle.makxirund.specs.Plain.{plainReading, plainRecord, plainEvent, plainWritten, InPlain};
+ghost use Rattle.makxirund.specs.CoreSets.{plainText};
 use boot::LoadReport;
+use cpusets::PlainReading;
 use dispatcher::Answer;
 use dispatcher::Dispatcher;
 use dispatcher::PlainReport;
@@ -258,4 +264,48 @@ pub extern "C" fn makxirund_fault(number: u8, offset: usize, buffer: &mut [u8]) 
     ensures { λ r. ⌜ InPlain (WritesFault number offset (now (buffer .entry)) (now (buffer .exit))) plainWritten r ⌝ }
 {
     plain_written(lines::write_fault(number, offset, buffer))
+}
+
+// The set that a List text means, or the first fault of the text.
+#[no_mangle]
+pub extern "C" fn makxirund_read_list(text: &[u8], limit: u8) -> PlainReading
+    ensures { λ r. ⌜ InPlain (ReadsList (coresOf limit) (now (text .entry))) plainOf r ⌝ }
+{
+    let reading = cpulists::read(text, limit);
+    reading.plain()
+}
+
+// The set that a Mask text means, or the first fault of the text.
+#[no_mangle]
+pub extern "C" fn makxirund_read_mask(text: &[u8], limit: u8) -> PlainReading
+    ensures { λ r. ⌜ InPlain (ReadsMask (coresOf limit) (now (text .entry))) plainOf r ⌝ }
+{
+    let reading = cpumasks::read(text, limit);
+    reading.plain()
+}
+
+fn plain_text(w: cpusets::Written) -> PlainWritten
+    ensures { λ r. ⌜ r ≡ plainText w ⌝ }
+{
+    let answer = w.answer;
+    PlainWritten {
+        number: answer.number(),
+        length: w.length,
+    }
+}
+
+// The one List text of a set.
+#[no_mangle]
+pub extern "C" fn makxirund_write_list(set: u64, limit: u8, buffer: &mut [u8]) -> PlainWritten
+    ensures { λ r. ⌜ InPlain (WritesList (coresOf limit) set (now (buffer .entry)) (now (buffer .exit))) plainText r ⌝ }
+{
+    plain_text(cpulists::write(set, limit, buffer))
+}
+
+// The one Mask text of a set.
+#[no_mangle]
+pub extern "C" fn makxirund_write_mask(set: u64, limit: u8, buffer: &mut [u8]) -> PlainWritten
+    ensures { λ r. ⌜ InPlain (WritesMask (coresOf limit) set (now (buffer .entry)) (now (buffer .exit))) plainText r ⌝ }
+{
+    plain_text(cpumasks::write(set, limit, buffer))
 }

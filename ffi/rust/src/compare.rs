@@ -2,6 +2,8 @@
 //! and every lent byte must be the same.
 #![forbid(unsafe_code)]
 
+mod core_sets;
+
 use std::fmt;
 
 use crate::layout::{Dispatcher, Line, LoadReport, Report, TaskRecord, CORES, EVENTS, NONE, SLOTS};
@@ -10,9 +12,23 @@ use crate::random::Random;
 use crate::states::{damage, full_mask, random_pattern, random_sound, Masks, Priorities};
 
 /// The kinds of calls, in the order in which they are counted.
-const KINDS: [&str; 12] = [
-    "fresh", "create", "delete", "wake", "block", "load", "sound", "read", "record", "event",
-    "line", "fault",
+const KINDS: [&str; 16] = [
+    "fresh",
+    "create",
+    "delete",
+    "wake",
+    "block",
+    "load",
+    "sound",
+    "read",
+    "record",
+    "event",
+    "line",
+    "fault",
+    "read_list",
+    "read_mask",
+    "write_list",
+    "write_mask",
 ];
 const FRESH: usize = 0;
 const CREATE: usize = 1;
@@ -26,6 +42,10 @@ const RECORD: usize = 8;
 const EVENT: usize = 9;
 const LINE: usize = 10;
 const FAULT: usize = 11;
+const READ_LIST: usize = 12;
+const READ_MASK: usize = 13;
+const WRITE_LIST: usize = 14;
+const WRITE_MASK: usize = 15;
 
 /// The answers that the paper lets each of the kinds give; for record and event 1 is: not found.
 const ANSWERS: [&[u8]; KINDS.len()] = [
@@ -41,6 +61,10 @@ const ANSWERS: [&[u8]; KINDS.len()] = [
     &[0, 1],
     &[0, 1, 14, 15],
     &[0, 15],
+    &[0, 17, 18, 19],
+    &[0, 17, 19],
+    &[0, 19, 20],
+    &[0, 19, 20],
 ];
 
 /// What accepted blocks and deletes met: where the task stood, or what became of its core.
@@ -66,7 +90,7 @@ const OFTEN: u64 = 500;
 #[derive(Default)]
 pub struct Coverage {
     /// Calls by kind and answer; a record or event that is not found counts as answer 1.
-    answers: [[u64; 17]; KINDS.len()],
+    answers: [[u64; 21]; KINDS.len()],
     /// Accepted blocks and deletes by end.
     ends: [[u64; ENDS.len()]; KINDS.len()],
     /// Calls on dispatchers of 1 to 32 cores, and on those with another count.
@@ -140,7 +164,7 @@ impl fmt::Display for Coverage {
             "calls by kind, then answer:count (for record and event 1 is: not found)"
         )?;
         for (kind, answers) in KINDS.iter().zip(&self.answers) {
-            write!(f, "  {kind:<7}{:>9} ", answers.iter().sum::<u64>())?;
+            write!(f, "  {kind:<11}{:>9} ", answers.iter().sum::<u64>())?;
             for (number, count) in answers.iter().enumerate().filter(|(_, &count)| count > 0) {
                 write!(f, " {number}:{count}")?;
             }
@@ -266,6 +290,9 @@ pub fn run(seed: u64, calls: u64) -> Coverage {
         }
         run.fresh();
         run.fault();
+        for _ in 0..3 {
+            run.core_sets();
+        }
         cores = cores % CORES + 1;
     }
     run.seen

@@ -13,6 +13,11 @@ pub const EVENTS: u16 = 16_000;
 /// The longest legal file: a core count, 255 records, and all events.
 pub const LONGEST_FILE: usize = 2 + 255 * 6 + 2 + EVENTS as usize * 2;
 
+/// Bytes enough for every List text that is written.
+pub const LIST_ROOM: usize = 192;
+/// Bytes enough for every Mask text.
+pub const MASK_ROOM: usize = 17;
+
 /// The paper's answer numbers.
 pub mod answer {
     pub const DONE: u8 = 0;
@@ -32,6 +37,10 @@ pub mod answer {
     pub const EVENT_KIND: u8 = 14;
     pub const LINE_LONG: u8 = 15;
     pub const TOO_MANY_EVENTS: u8 = 16;
+    pub const UNEXPECTED: u8 = 17;
+    pub const BACKWARD: u8 = 18;
+    pub const ABOVE_LIMIT: u8 = 19;
+    pub const OUTPUT_SHORT: u8 = 20;
 }
 
 /// One slot of the task table; empty when both fields are 0.
@@ -161,4 +170,13 @@ pub struct Line {
 pub struct Written {
     pub number: u8,
     pub length: usize,
+}
+
+/// What a reader of core sets says: the set, bit k for core k, or a refusal and its offset.
+#[repr(C)]
+#[derive(Debug, Clone, Copy, PartialEq, Eq)]
+pub struct Reading {
+    pub number: u8,
+    pub offset: usize,
+    pub set: u64,
 }

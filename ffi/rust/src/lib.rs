@@ -12,8 +12,8 @@ pub mod raw;
 pub mod states;
 
 pub use layout::{
-    answer, Dispatcher, FileEvent, FileRecord, Layout, Line, LoadReport, Report, Task, TaskRecord,
-    Written, CORES, EVENTS, LONGEST_FILE, NONE, SLOTS,
+    answer, Dispatcher, FileEvent, FileRecord, Layout, Line, LoadReport, Reading, Report, Task,
+    TaskRecord, Written, CORES, EVENTS, LIST_ROOM, LONGEST_FILE, MASK_ROOM, NONE, SLOTS,
 };
 
 // Each pointer below comes from a reference or slice that lives through the call, has the length
@@ -98,4 +98,28 @@ pub fn event(file: &[u8], index: usize) -> FileEvent {
 #[inline]
 pub fn write_fault(number: u8, offset: usize, buffer: &mut [u8]) -> Written {
     unsafe { raw::makxirund_fault(number, offset, buffer.as_mut_ptr(), buffer.len()) }
+}
+
+/// The set of a List text, as `0-4,9`; cores at or above the limit are refused.
+#[inline]
+pub fn read_list(text: &[u8], limit: u8) -> Reading {
+    unsafe { raw::makxirund_read_list(text.as_ptr(), text.len(), limit) }
+}
+
+/// The set of a Mask text, of as many words as the limit needs.
+#[inline]
+pub fn read_mask(text: &[u8], limit: u8) -> Reading {
+    unsafe { raw::makxirund_read_mask(text.as_ptr(), text.len(), limit) }
+}
+
+/// Writes the one List text of a set to the buffer's start.
+#[inline]
+pub fn write_list(set: u64, limit: u8, buffer: &mut [u8]) -> Written {
+    unsafe { raw::makxirund_write_list(set, limit, buffer.as_mut_ptr(), buffer.len()) }
+}
+
+/// Writes the one Mask text of a set to the buffer's start.
+#[inline]
+pub fn write_mask(set: u64, limit: u8, buffer: &mut [u8]) -> Written {
+    unsafe { raw::makxirund_write_mask(set, limit, buffer.as_mut_ptr(), buffer.len()) }
 }

@@ -11,6 +11,7 @@ use crate::layout::{
     Written, CORES, EVENTS, NONE, SLOTS,
 };
 
+pub mod core_sets;
 #[cfg(test)]
 mod tests;
 

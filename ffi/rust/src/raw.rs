@@ -1,7 +1,8 @@
 //! The library's C interface as it stands.
 
 use crate::layout::{
-    Dispatcher, FileEvent, FileRecord, Layout, Line, LoadReport, Report, TaskRecord, Written,
+    Dispatcher, FileEvent, FileRecord, Layout, Line, LoadReport, Reading, Report, TaskRecord,
+    Written,
 };
 
 extern "C" {
@@ -26,4 +27,8 @@ extern "C" {
         room: usize,
     ) -> Written;
     pub fn makxirund_fault(number: u8, offset: usize, buffer: *mut u8, room: usize) -> Written;
+    pub fn makxirund_read_list(text: *const u8, length: usize, limit: u8) -> Reading;
+    pub fn makxirund_read_mask(text: *const u8, length: usize, limit: u8) -> Reading;
+    pub fn makxirund_write_list(set: u64, limit: u8, buffer: *mut u8, room: usize) -> Written;
+    pub fn makxirund_write_mask(set: u64, limit: u8, buffer: *mut u8, room: usize) -> Written;
 }

@@ -7,7 +7,7 @@ use std::process::{Command, Stdio};
 
 use makxirund::{
     event, read, record, write_fault, Dispatcher, FileEvent, FileRecord, Layout, Line, LoadReport,
-    Report, Task, TaskRecord, Written,
+    Reading, Report, Task, TaskRecord, Written,
 };
 
 const FILE: [u8; 44] = [
@@ -241,4 +241,6 @@ fn shapes_are_as_the_interface_says() {
     assert_eq!(offsets!(Line, number kind slot report), [0, 4, 6, 8]);
     assert_eq!((size_of::<Written>(), align_of::<Written>()), size(16, 8));
     assert_eq!(offsets!(Written, number length), [0, 8]);
+    assert_eq!((size_of::<Reading>(), align_of::<Reading>()), size(24, 8));
+    assert_eq!(offsets!(Reading, number offset set), [0, 8, 16]);
 }
