@@ -14,8 +14,8 @@ use Rattle.masks.specs.Masks.{has}
 use Rattle.masks.proofs.Bits.{has-zero}
 use Rattle.texts.specs.Joined.{comma}
 use Rattle.cpusets.specs.Characters.{character}
-use Rattle.cpulists.specs.List.{Item, firstOf, lastOf, Holds, listText}
-use Rattle.cpulists.specs.Progress.{IsLegal, Opens, ReadTo, ReadAll, ItemAt, Spans}
+use Rattle.cpulists.specs.List.{Holds}
+use Rattle.cpulists.specs.Progress.{IsLegal, ReadTo, ReadAll, ItemAt, Spans}
 use Rattle.cpulists.proofs.Verdicts.{comma-list, whole-list}
 
 none-held : (c : ℕ) → Decides (Any (Holds c) []) (has 0 c)

@@ -1,13 +1,12 @@
 -- What a List text can go on with, character by character: a walk through five states tells which beginnings no List text has.
-use Prim.Native.Nat.{ℕ, _+_, _≤_, _<_}
+use Prim.Native.Nat.{ℕ, _+_, _<_}
 use mathlib.Core.Path.{_≡_, refl, sym, ap, subst, _∙_}
 use mathlib.Core.Logic.{_⊎_, inl, inr, _≢_}
 use mathlib.Core.Bool.{Bool, true, false, cond, _&&_}
-use mathlib.Core.List.{List, [], _∷_, _++_, map, append-nil}
+use mathlib.Core.List.{List, [], _∷_, _++_, append-nil}
 use native.Mathlib.Omega.{arith}
 use lib.Dec.{eqb, leb}
 use lib.ListN.{length}
-use Rattle.laws.specs.Decides.{Decides}
 use Rattle.laws.specs.Lists.{All}
 use Rattle.laws.proofs.Deciding.{decides-and, decides-le, clash, cases}
 use Rattle.laws.proofs.Testing.{eqb-false}

@@ -1,8 +1,8 @@
 -- Items that are in order hold no fault: a text is clear as far as such items go.
 use Prim.Native.Nat.{ℕ, _+_, _≤_, _<_}
-use mathlib.Core.Path.{_≡_, refl, sym, ap, subst, _∙_}
+use mathlib.Core.Path.{_≡_, refl, sym, ap, _∙_}
 use mathlib.Core.Logic.{inl, inr}
-use mathlib.Core.List.{List, [], _∷_, _++_, append-assoc, append-nil}
+use mathlib.Core.List.{List, [], _∷_, _++_, append-assoc}
 use native.Mathlib.Nat.{zero-add}
 use native.Mathlib.Omega.{arith}
 use lib.ListN.{length, take, drop, getD, length-append, length-drop, take-append-drop}
@@ -14,8 +14,8 @@ use Rattle.texts.specs.Joined.{comma, dash}
 use Rattle.cpusets.specs.Characters.{character, IsDigit}
 use Rattle.cpusets.specs.Faults.{Faultless}
 use Rattle.cpusets.proofs.Beginning.{none-unexpected}
-use Rattle.cpulists.specs.List.{IsNumber, Item, one, range, itemText, IsItem, listText, IsListText}
-use Rattle.cpulists.specs.Faults.{NumberAt, RunsBackward, IsAbove, listFaults}
+use Rattle.cpulists.specs.List.{IsNumber, Item, one, range, itemText, IsItem, listText}
+use Rattle.cpulists.specs.Faults.{NumberAt, RunsBackward, listFaults}
 use Rattle.cpulists.specs.Progress.{IsLegal, followed, Opens}
 use Rattle.cpulists.proofs.Numbers.{past-end}
 use Rattle.cpulists.proofs.Places.{first-digit, Clear, clear-start, pass, not-above, backward-from}

@@ -1,24 +1,23 @@
 -- What the steps of the reader hand one another: digits as a number, a refusal passed on, an item of one number or of two.
-use Prim.Native.Nat.{ℕ, _+_, _≤_, _<_, min}
+use Prim.Native.Nat.{ℕ, _+_, _≤_, _<_}
 use mathlib.Core.Path.{_≡_, refl, sym, ap, subst, _∙_}
-use mathlib.Core.Logic.{_⊎_, inl, inr, _≢_}
+use mathlib.Core.Logic.{_≢_}
 use mathlib.Core.Bool.{Bool, true, false}
 use mathlib.Core.List.{List, [], _∷_, _++_, append-assoc}
 use native.Mathlib.Numerals.{add-one}
 use native.Mathlib.Omega.{arith}
-use lib.ListN.{length, take, drop, length-append}
+use lib.ListN.{length, drop, length-append}
 use lib.Seq.{take-append-seam, drop-cons, drop-drop}
-use Rattle.laws.specs.Lists.{All}
 use Rattle.laws.proofs.Deciding.{clash}
 use Rattle.decimals.specs.Decimal.{value}
-use Rattle.texts.specs.Joined.{comma, dash}
+use Rattle.texts.specs.Joined.{dash}
 use Rattle.cpusets.specs.Answers.{numberOf}
 use Rattle.cpusets.specs.Characters.{character, IsDigit}
 use Rattle.cpusets.specs.Faults.{FirstFault}
 use Rattle.cpusets.specs.declared.Answer.{Answer}
 use Rattle.cpulists.specs.List.{IsNumber, Item, one, range, itemText, IsItem}
 use Rattle.cpulists.specs.Faults.{NumberAt, listFaults}
-use Rattle.cpulists.specs.Progress.{ReadsNumber, Opens, HalfRead, SecondAt, ReadsSecond, ItemAt, ReadsPiece, Walks}
+use Rattle.cpulists.specs.Progress.{ReadsNumber, HalfRead, SecondAt, ReadsSecond, ItemAt, ReadsPiece, Walks}
 use Rattle.cpulists.specs.declared.Number.{Number}
 use Rattle.cpulists.specs.declared.Piece.{Piece}
 use Rattle.cpulists.specs.declared.Walk.{Walk}

@@ -1,12 +1,11 @@
 -- The numbers of a text by their places: a place begins one number and ends one; and the numbers that are in order hold no fault.
 use Prim.Native.Nat.{ℕ, _+_, _-_, _≤_, _<_}
-use mathlib.Core.Path.{_≡_, refl, sym, ap, subst, _∙_}
-use mathlib.Core.List.{List, [], _∷_, _++_}
+use mathlib.Core.Path.{_≡_, sym, ap, subst, _∙_}
+use mathlib.Core.List.{List, []}
 use native.Mathlib.Decide.{ℕ-discrete, decLt}
 use native.Mathlib.Omega.{arith}
 use lib.ListN.{length, take, drop, getD}
 use lib.Seq.{getD-take, getD-drop}
-use Rattle.laws.specs.Lists.{All}
 use Rattle.laws.proofs.Lists.{all-at}
 use Rattle.decimals.specs.Decimal.{value}
 use Rattle.cpusets.specs.Characters.{character, IsDigit}

@@ -1,13 +1,13 @@
 -- The reader's verdicts: each fault where it is met, with all before it in order; and how a text is read one item further.
 use Prim.Native.Nat.{ℕ, _+_, _≤_, _<_}
-use mathlib.Core.Path.{_≡_, refl, sym, ap, subst, _∙_}
+use mathlib.Core.Path.{_≡_, refl, sym, ap, _∙_}
 use mathlib.Core.Logic.{_⊎_, inl, inr, _≢_}
-use mathlib.Core.List.{List, [], _∷_, _++_, map, append-assoc, append-nil}
+use mathlib.Core.List.{List, [], _∷_, _++_, append-assoc, append-nil}
 use native.Mathlib.Decide.{decLt}
 use native.Mathlib.Numerals.{add-one}
 use native.Mathlib.Omega.{arith}
-use lib.ListN.{length, take, drop, getD, length-append, length-drop}
-use lib.Seq.{take-suc, take-add, take-all, getD-drop, drop-drop}
+use lib.ListN.{length, take, drop}
+use lib.Seq.{take-suc, take-add, take-all}
 use Rattle.laws.specs.Answering.{Applies}
 use Rattle.laws.specs.Lists.{All}
 use Rattle.laws.proofs.Lists.{all-append}
@@ -18,7 +18,7 @@ use Rattle.cpusets.specs.Faults.{Begins, IsUnexpected, FirstFault}
 use Rattle.cpusets.proofs.Beginning.{begins-front, begins-part, expected, first-fault}
 use Rattle.cpulists.specs.List.{IsNumber, Item, one, range, itemText, IsItem, listText, IsListText}
 use Rattle.cpulists.specs.Faults.{NumberAt, RunsBackward, IsAbove, listFaults}
-use Rattle.cpulists.specs.Progress.{IsLegal, followed, Opens, HalfRead, ItemAt}
+use Rattle.cpulists.specs.Progress.{followed, Opens, HalfRead, ItemAt}
 use Rattle.cpulists.proofs.Numbers.{past-end}
 use Rattle.cpulists.proofs.Places.{first-digit, Clear, not-above, backward-from}
 use Rattle.cpulists.proofs.Passing.{comma-number, dash-number, comma-forward, pass-first, pass-item, opens-clear, legal-items, rest-split}

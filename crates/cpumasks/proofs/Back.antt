@@ -14,13 +14,8 @@ use Rattle.cpusets.specs.declared.Written.{Written}
 use Rattle.cpumasks.specs.Mask.{wordsOf, IsUpper, placeOf, MeansMask, MaskOf}
 use Rattle.cpumasks.specs.Faults.{maskFaults}
 use Rattle.cpumasks.specs.Promise.{ReadsMask, WritesMask}
-use Rattle.cpumasks.proofs.Making.{some-mask, words-enough}
 use Rattle.cpumasks.proofs.Steps.{means-faultless}
 use Rattle.cpumasks.proofs.Same.{text-same, mask-reads-same}
-
--- every set of cores below the limit has a text
-pub mask-some : (n s : ℕ) → (NamesMissing n s → ⊥) → (t : List ℕ) × MaskOf (wordsOf n) s t
-mask-some n s none = some-mask (wordsOf n) s (λ h. none (words-enough h))
 
 -- the set that a text without a fault means has no core at or above the limit
 pub faultless-below : {n words s : ℕ} {t : List ℕ} → Faultless (maskFaults n words t) → MeansMask words t s → NamesMissing n s → ⊥

@@ -1,6 +1,6 @@
 -- What begins a text of a format: so does each beginning of it; a text of the format has no character or end that is unexpected; and which fault is the first.
 use Prim.Native.Nat.{ℕ, _+_, _≤_, _<_}
-use mathlib.Core.Path.{_≡_, sym}
+use mathlib.Core.Path.{_≡_}
 use mathlib.Core.Logic.{_⊎_, inl, inr}
 use mathlib.Core.List.{List, _++_, append-assoc}
 use native.Mathlib.Decide.{ℕ-discrete, decLt}

@@ -1,5 +1,5 @@
 -- Any two results that a promise allows are the same.
-use Prim.Native.Nat.{ℕ, _≤_, _<_}
+use Prim.Native.Nat.{ℕ, _<_}
 use mathlib.Core.Path.{_≡_, refl, sym, ap, _∙_}
 use mathlib.Core.Logic.{_⊎_, inl, inr}
 use mathlib.Core.Bool.{Bool, true, false, cond}
@@ -69,18 +69,19 @@ refuses-same a b = (written-same (a .answer ∙ sym (b .answer)) (a .nothing ∙
 stands-same : {text before after after′ : List ℕ} {r q : Written} → Stands text before after r → Stands text before after′ q → (r ≡ q) × (after ≡ after′)
 stands-same a b = (written-same (a .answer ∙ sym (b .answer)) (a .told ∙ sym (b .told)), a .written ∙ sym (b .written))
 
--- where a set has one text
+-- where there is one text
+pub writes-text-same : {TextOf : List ℕ → Type 0} {before after after′ : List ℕ} {r q : Written} → ((t u : List ℕ) → TextOf t → TextOf u → t ≡ u)
+    → WritesText TextOf before after r → WritesText TextOf before after′ q → (r ≡ q) × (after ≡ after′)
+writes-text-same {before = before} {after} {after′} {r} {q} one a b = go (decLt (length before) (length (a .text))) (one (a .text) (b .text) (a .is) (b .is))
+  where
+    go : Dec (length before < length (a .text)) → a .text ≡ b .text → (r ≡ q) × (after ≡ after′)
+    go (yes l) e = refuses-same (a .short l) (b .short (rw (← e) l))
+    go (no l) e = stands-same (a .room (omega arith)) (rw (← e) at (b .room (rw (← e) (omega arith))))
+
 pub writes-same : {TextOf : List ℕ → Type 0} {n s : ℕ} {before after after′ : List ℕ} {r q : Written} → ((t u : List ℕ) → TextOf t → TextOf u → t ≡ u)
     → Writes TextOf n s before after r → Writes TextOf n s before after′ q → (r ≡ q) × (after ≡ after′)
 writes-same {TextOf} {n} {s} {before} {after} {after′} {r} {q} one a b = go _ (names-test n s) (cases _)
   where
-    texts : WritesText TextOf before after r → WritesText TextOf before after′ q → (r ≡ q) × (after ≡ after′)
-    texts v w = at (decLt (length before) (length (v .text))) (one (v .text) (w .text) (v .is) (w .is))
-      where
-        at : Dec (length before < length (v .text)) → v .text ≡ w .text → (r ≡ q) × (after ≡ after′)
-        at (yes l) e = refuses-same (v .short l) (w .short (rw (← e) l))
-        at (no l) e = stands-same (v .room (omega arith)) (rw (← e) at (w .room (rw (← e) (omega arith))))
-
     go : (t : Bool) → Decides (NamesMissing n s) t → (t ≡ true) ⊎ (t ≡ false) → (r ≡ q) × (after ≡ after′)
     go t d (inl y) = refuses-same (a .above (d .yes y)) (b .above (d .yes y))
-    go t d (inr y) = texts (a .below (d .no y)) (b .below (d .no y))
+    go t d (inr y) = writes-text-same one (a .below (d .no y)) (b .below (d .no y))

@@ -1,12 +1,12 @@
 -- `advance` meets its contract: an item is followed by the end, or by a comma and an item to come.
-use Prim.Native.Nat.{_+_, _≤_, _<_}
-use mathlib.Core.Path.{_≡_, refl, sym, ap, _∙_}
+use Prim.Native.Nat.{_<_}
+use mathlib.Core.Path.{_≡_, sym, ap, _∙_}
 use native.Mathlib.Omega.{arith}
 use borrow.Author.Needs.{needs}
 use lib.ListN.{length}
 use Rattle.cpusets.specs.Answers.{numberOf}
 use Rattle.cpusets.specs.declared.Answer.the-variants.{Unexpected}
-use Rattle.cpulists.specs.Progress.{ItemAt, ReadTo}
+use Rattle.cpulists.specs.Progress.{ItemAt}
 use Rattle.cpulists.proofs.Verdicts.{no-comma, no-item}
 use Rattle.cpulists.proofs.Pieces.{walk-refused, item-further}
 use Rattle.cpulists.proofs.Gathering.{read-more, read-whole}

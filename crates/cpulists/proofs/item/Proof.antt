@@ -1,6 +1,5 @@
 -- `item` meets its contract: a number, or a number and a range's second number.
 use Prim.Native.Nat.{_+_, _<_}
-use mathlib.Core.Path.{_≡_, refl, sym, _∙_}
 use mathlib.Core.Logic.{_≢_}
 use native.Mathlib.Omega.{arith}
 use borrow.Author.Needs.{needs}

@@ -1,6 +1,5 @@
 -- `range` meets its contract: a second number that is missing, too high or too low is refused where it has to begin.
-use mathlib.Core.Path.{_≡_, refl, sym, _∙_}
-use mathlib.Core.List.{List}
+use mathlib.Core.Path.{_∙_}
 use native.Mathlib.Omega.{arith}
 use borrow.Author.Needs.{needs}
 use Rattle.cpusets.specs.declared.Answer.the-variants.{Unexpected, Backward, AboveLimit}

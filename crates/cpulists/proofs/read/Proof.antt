@@ -1,11 +1,10 @@
 -- `cpulists::read` meets its promise: item by item, until a fault or the end. The measure is what is left of the text.
-use Prim.Native.Nat.{_-_, _≤_, _<_, min}
-use mathlib.Core.Path.{_≡_, refl, sym, _∙_}
+use Prim.Native.Nat.{_-_, _≤_, _<_}
+use mathlib.Core.Path.{_≡_, sym, _∙_}
 use native.Mathlib.Omega.{arith}
 use borrow.Author.Needs.{needs}
 use lib.ListN.{length}
 use Rattle.cpusets.specs.Answers.{numberOf}
-use Rattle.cpusets.specs.Limit.{setBits}
 use Rattle.cpulists.specs.Progress.{ReadTo, ReadAll}
 use Rattle.cpulists.proofs.Passing.{faultless, legal-items}
 use Rattle.cpulists.proofs.Gathering.{start, start-all}

@@ -1,5 +1,5 @@
 -- `Reading::plain` meets its promise: case by case.
-use mathlib.Core.Path.{sym, ap, _∙_}
+use mathlib.Core.Path.{sym, ap}
 use borrow.Author.Needs.{needs}
 use Rattle.cpusets.specs.Reading.{plainOf}
 use Rattle.cpusets.proofs.Reading.plain.Statement.{statement}
