@@ -493,11 +493,16 @@ def check_everything():
     check_boundaries(Dice(6))
 
 
-if __name__ == "__main__":
+def run(check, agreed):
+    """Runs the checks; says how many there were, or the first difference."""
     try:
-        check_everything()
+        check()
     except Difference as difference:
         sys.exit(f"DIFFERENCE in {difference}")
     for what, count in sorted(counts.items()):
         print(f"{count:8} {what}")
-    print("the reference agrees with the definitions in all of them")
+    print(agreed)
+
+
+if __name__ == "__main__":
+    run(check_everything, "the reference agrees with the definitions in all of them")

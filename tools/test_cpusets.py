@@ -14,7 +14,7 @@ sys.dont_write_bytecode = True
 import cpusets_literal as literal
 from cpusets import convert, read_list, read_mask, write_list, write_mask
 from dice import Dice
-from self_check import Difference, counts, expect
+from self_check import counts, expect, run
 
 ROOM = 200
 LIMITS = range(1, 65)
@@ -210,10 +210,4 @@ def check_everything():
 
 
 if __name__ == "__main__":
-    try:
-        check_everything()
-    except Difference as difference:
-        sys.exit(f"DIFFERENCE in {difference}")
-    for what, count in sorted(counts.items()):
-        print(f"{count:8} {what}")
-    print("the reader and the writer agree with the definitions in all of them")
+    run(check_everything, "the reader and the writer agree with the definitions in all of them")

@@ -1,27 +1,22 @@
 -- The text of a set: the one whose every place is as it is written.
 use Prim.Native.Nat.{ℕ, _+_, _*_, _/_, _%_, _^_, _≤_, _<_}
 use mathlib.Core.Path.{_≡_, refl, sym, ap, _∙_}
-use mathlib.Core.Bool.{Bool, true, false, cond, _&&_}
 use mathlib.Core.List.{List}
 use native.Mathlib.Decide.{ℕ-discrete, decLt}
-use native.Mathlib.Nat.{zero-add}
 use native.Mathlib.Omega.{arith}
 use lib.ListN.{length, take, List·getD-eq-default, set, length-set}
 use lib.Seq.{length-take-le, getD-take, getD-set-same, getD-set-other}
-use lib.Dec.{eqb, ltb}
-use borrow.Author.Tests.{eq-eqb, ne-eqb, lt-ltb, le-ltb}
+use borrow.Author.Tests.{lt-ltb}
 use Rattle.laws.specs.Decides.{Decides}
 use Rattle.laws.proofs.Deciding.{clash}
+use Rattle.laws.proofs.Testing.{and-true}
 use Rattle.masks.specs.Masks.{has, NamesMissing}
 use Rattle.masks.proofs.Bits.{has-shifted}
 use Rattle.masks.proofs.Operators.{has-cut}
-use Rattle.texts.specs.Joined.{comma}
 use Rattle.cpusets.specs.Characters.{character}
 use Rattle.cpusets.specs.Writing.{Made}
 use Rattle.cpumasks.specs.Mask.{wordsOf, IsUpper, hexValue, maskSize, placeOf, HasCore, MaskOf}
 use Rattle.cpumasks.specs.Progress.{lowestCore, IsGlyph, IsWritten}
-use Rattle.cpumasks.proofs.Digits.{glyph-digit, glyph-letter}
-use Rattle.cpumasks.proofs.Filling.{made, made-length, made-at}
 use Rattle.cpumasks.proofs.Places.{place-within, no-comma, core-of}
 
 -- a bit of the set is a bit of the four that its digit has
@@ -31,10 +26,6 @@ cut-bit words s c l =
     ∙ rw (lt-ltb (c % 4) 4 (omega arith)) (and-true (has (s / 2 ^ lowestCore words (placeOf words c)) (c % 4)))
     ∙ has-shifted s (lowestCore words (placeOf words c)) (c % 4)
     ∙ ap (has s) (sym (core-of words c l))
-  where
-    and-true : (b : Bool) → (b && true) ≡ b
-    and-true true = refl
-    and-true false = refl
 
 module _ (words s : ℕ) (t : List ℕ) (none : NamesMissing (32 * words) s → ⊥) (whole : length t ≡ maskSize words) (each : (o : ℕ) → o < maskSize words → IsWritten words s o (character t o)) where
   written-core : (c : ℕ) → Dec (c < 32 * words) → Decides (HasCore words t c) (has s c)
@@ -60,32 +51,6 @@ module _ (words s : ℕ) (t : List ℕ) (none : NamesMissing (32 * words) s → 
     };
     lower = λ o. no-upper o (decLt o (maskSize words)) (ℕ-discrete (o % 9) 8);
   }
-
--- ---- every set has one
-
-glyphOf : ℕ → ℕ
-glyphOf d = cond (ltb d 10) (48 + d) (87 + d)
-
-glyph-of : (d : ℕ) → d < 16 → Dec (d < 10) → IsGlyph d (glyphOf d)
-unfolding glyphOf
-glyph-of d l (yes k) = rw (lt-ltb d 10 k) (glyph-digit d k)
-glyph-of d l (no k) = rw (le-ltb d 10 (omega arith)) (glyph-letter d (omega arith) l)
-
-placeText : ℕ → ℕ → ℕ → ℕ
-placeText words s o = cond (eqb (o % 9) 8) comma (glyphOf (s / 2 ^ lowestCore words o % 16))
-
-place-written : (words s o : ℕ) → IsWritten words s o (placeText words s o)
-unfolding placeText
-place-written words s o = record {
-  comma-there = λ h. rw (eq-eqb (o % 9) 8 h);
-  digit-there = λ n. rw (ne-eqb (o % 9) 8 n) (glyph-of (s / 2 ^ lowestCore words o % 16) (omega arith) (decLt (s / 2 ^ lowestCore words o % 16) 10));
-}
-
-pub some-mask : (words s : ℕ) → (NamesMissing (32 * words) s → ⊥) → (t : List ℕ) × MaskOf words s t
-some-mask words s none = (made (placeText words s) 0 (maskSize words), written-mask words s (made (placeText words s) 0 (maskSize words)) none (made-length (placeText words s) 0 (maskSize words)) each)
-  where
-    each : (o : ℕ) → o < maskSize words → IsWritten words s o (character (made (placeText words s) 0 (maskSize words)) o)
-    each o l = rw (made-at (placeText words s) 0 (maskSize words) o l, zero-add o) (place-written words s o)
 
 -- the words that the limit needs have room for every core
 pub words-enough : {n s : ℕ} → NamesMissing (32 * wordsOf n) s → NamesMissing n s

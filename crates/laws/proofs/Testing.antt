@@ -21,6 +21,10 @@ pub both-and : {a b : Bool} → a ≡ true → b ≡ true → a && b ≡ true
 both-and {a = true} {b} h k = k
 both-and {a = false} {b} h k = h
 
+pub and-true : (b : Bool) → b && true ≡ b
+and-true true = refl
+and-true false = refl
+
 pub or-cases : {a b : Bool} → a || b ≡ true → (a ≡ true) ⊎ (b ≡ true)
 or-cases {a = true} {b} h = inl refl
 or-cases {a = false} {b} h = inr h

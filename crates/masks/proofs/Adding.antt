@@ -5,13 +5,10 @@ use mathlib.Core.Bool.{Bool, true, false, _&&_, _||_}
 use lib.Bits.{bitOr}
 use lib.Dec.{eqb}
 use borrow.Author.Tests.{lt-ltb, le-ltb}
+use Rattle.laws.proofs.Testing.{and-true}
 use Rattle.masks.specs.Masks.{width, has, Added}
 use Rattle.masks.proofs.Operators.{has-or, has-power, shl-one, same-bits}
 use Rattle.masks.proofs.Bits.{has-zero}
-
-and-true : (b : Bool) → b && true ≡ b
-and-true true = refl
-and-true false = refl
 
 or-and-false : (a b : Bool) → a || (b && false) ≡ a
 or-and-false true b = refl
