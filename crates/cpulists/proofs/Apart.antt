@@ -52,7 +52,7 @@ each-same (x ∷ xs) (y ∷ ys) h k e =
     let rest : map itemText xs ≡ map itemText ys = cc in
     λ i. item-same x y (h .0) (k .0) first i ∷ each-same xs ys (h .1) (k .1) rest i
 
-some-text : (i : Item) → IsItem i → 0 < length (itemText i)
+pub some-text : (i : Item) → IsItem i → 0 < length (itemText i)
 some-text (one d) h = h .some
 some-text (range d e) h = omega (arith, length-append d (dash ∷ e))
 

@@ -2,13 +2,13 @@
 use Prim.Native.Nat.{ℕ, _+_, _≤_, _<_}
 use mathlib.Core.Path.{_≡_, refl}
 use mathlib.Core.Logic.{_⊎_, inl, inr}
-use mathlib.Core.Bool.{Bool, true, false}
+use mathlib.Core.Bool.{true}
 use mathlib.Core.List.{List, [], _∷_, _++_}
 use native.Mathlib.Omega.{arith}
 use lib.ListN.{length}
 use Rattle.laws.specs.Decides.{Decides}
 use Rattle.laws.specs.Lists.{All, Any}
-use Rattle.laws.proofs.Deciding.{decides-by, decides-false}
+use Rattle.laws.proofs.Deciding.{decides-yes, decides-by, decides-false}
 use Rattle.laws.proofs.Lists.{all-append, any-append, any-left, any-right}
 use Rattle.masks.specs.Masks.{has}
 use Rattle.masks.proofs.Bits.{has-zero}
@@ -32,10 +32,6 @@ start-all {t = t} l = record { items = []; legal = tt; is = empty t l; cores = n
     empty [] l = refl
     empty (c ∷ t) l = absurd (omega arith)
 
-yes-held : {P : Type 0} {b : Bool} → Decides P b → P → b ≡ true
-yes-held {b = true} d p = refl
-yes-held {b = false} d p = absurd (d .no refl p)
-
 -- one item more
 module _ {n : ℕ} {t : List ℕ} {at set first last end with : ℕ} (R : ReadTo n t at set) (I : ItemAt n t at first last end) (S : Spans set first last with) where
   held : (c : ℕ) → Decides (Any (Holds c) (R .opens .items ++ (I .item ∷ []))) (has with c)
@@ -46,7 +42,7 @@ module _ {n : ℕ} {t : List ℕ} {at set first last end with : ℕ} (R : ReadTo
       to (inr h) = any-right (Holds c) (R .opens .items) (I .item ∷ []) (inl (rw (← I .first-told) (h .0), rw (← I .last-told) (h .1)))
 
       from : Any (Holds c) (R .opens .items ++ (I .item ∷ [])) → (has set c ≡ true) ⊎ ((first ≤ c) × (c ≤ last))
-      from h = elim (any-append (Holds c) (R .opens .items) (I .item ∷ []) h) [ inl k ↦ inl (yes-held (R .cores c) k) | inr k ↦ inr (only k) ]
+      from h = elim (any-append (Holds c) (R .opens .items) (I .item ∷ []) h) [ inl k ↦ inl (decides-yes (R .cores c) k) | inr k ↦ inr (only k) ]
         where
           only : Any (Holds c) (I .item ∷ []) → (first ≤ c) × (c ≤ last)
           only (inl k) = (rw (I .first-told) (k .0), rw (I .last-told) (k .1))

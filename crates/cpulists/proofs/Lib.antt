@@ -1,6 +1,7 @@
 pub mod Numbers
 pub mod Places
 pub mod Grammar
+pub mod Apart
 pub mod Passing
 pub mod Verdicts
 pub mod Pieces
@@ -8,9 +9,9 @@ pub mod Gathering
 pub mod Seeking
 pub mod RunText
 pub mod Ascending
-pub mod Listing
-pub mod Runs
 pub mod Written
-pub mod Apart
+pub mod Listing
+pub mod Room
+pub mod Runs
 pub mod Same
 pub mod Back

@@ -10,27 +10,22 @@ use lib.ListN.{length, take, length-append}
 use lib.Seq.{length-take-le}
 use Rattle.laws.specs.Lists.{Any}
 use Rattle.laws.proofs.Deciding.{clash}
+use Rattle.laws.proofs.Lists.{any-append, any-left, any-right}
 use Rattle.masks.specs.Masks.{has}
 use Rattle.masks.proofs.Bits.{has-beyond}
 use Rattle.texts.specs.Put.{Puts}
 use Rattle.texts.specs.Joined.{comma, eachAfter}
 use Rattle.texts.proofs.Putting.{puts-length, puts-taken}
-use Rattle.decimals.proofs.Spelling.{decimal-some}
 use Rattle.cpusets.specs.Limit.{setBits}
 use Rattle.cpusets.specs.Writing.{Made}
 use Rattle.cpulists.specs.List.{itemText, listText, Run, Covers, Ascending, runItem, ListOf}
 use Rattle.cpulists.specs.Progress.{NextIs, runText, listRoom}
-use Rattle.cpulists.proofs.Ascending.{ascending-from, any-split, any-before, any-last}
-use Rattle.cpulists.proofs.RunText.{comma-none, comma-one, run-one, run-range, run-length}
+use Rattle.cpulists.proofs.Apart.{some-text}
+use Rattle.cpulists.proofs.Ascending.{ascending-from}
+use Rattle.cpulists.proofs.Written.{run-item}
+use Rattle.cpulists.proofs.RunText.{comma-none, comma-one, run-length}
 
 -- ---- the text of one run more
-
-item-some : (r : Run) → 1 ≤ length (itemText (runItem r))
-item-some r = go (ℕ-discrete (r .first) (r .last))
-  where
-    go : Dec (r .first ≡ r .last) → 1 ≤ length (itemText (runItem r))
-    go (yes e) = rw (run-one (r .first) (r .last) e) (decimal-some (r .first))
-    go (no n) = rw (run-range (r .first) (r .last) n, length-append) (omega (arith, decimal-some (r .first)))
 
 each-end : (rs : List Run) (r : Run)
     → eachAfter comma (map itemText (map runItem (rs ++ (r ∷ [])))) ≡ eachAfter comma (map itemText (map runItem rs)) ++ (comma ∷ itemText (runItem r))
@@ -40,7 +35,7 @@ each-end (q ∷ rs) r = rw (each-end rs r, append-assoc)
 text-end : (at : ℕ) (rs : List Run) (r : Run) → at ≡ length (listText (map runItem rs)) → listText (map runItem (rs ++ (r ∷ []))) ≡ listText (map runItem rs) ++ runText at r
 text-end at [] r e = rw (comma-none at e) (append-nil (itemText (runItem r)))
 text-end at (q ∷ rs) r e =
-    let n : at ≢ 0 = λ z. omega (arith, item-some q, length-append (itemText (runItem q)) (eachAfter comma (map itemText (map runItem rs)))) in
+    let n : at ≢ 0 = λ z. omega (arith, some-text (runItem q) (run-item q .0), length-append (itemText (runItem q)) (eachAfter comma (map itemText (map runItem rs)))) in
     rw (comma-one at n, each-end rs r, append-assoc)
 
 -- ---- how far the list is written
@@ -98,19 +93,20 @@ module _ {s at first end : ℕ} {x : List ℕ} (w : Listed s x at first) (more :
 
     held-more : (c : ℕ) → Any (Covers c) (w .runs ++ (run ∷ [])) → (has s c ≡ true) × (c < f)
     unfolding run
-    held-more c i = go (any-split c (w .runs) run i)
+    held-more c i = go (any-append (Covers c) (w .runs) (run ∷ []) i)
       where
-        go : Any (Covers c) (w .runs) ⊎ Covers c run → (has s c ≡ true) × (c < f)
+        go : Any (Covers c) (w .runs) ⊎ Any (Covers c) (run ∷ []) → (has s c ≡ true) × (c < f)
         go (inl j) = (w .held c j .0, omega (arith, w .held c j .1, run-some, m .from-on))
-        go (inr h) = (n .passed c (h .0) (omega (arith, h .1, run-some)), omega (arith, h .1, run-some, m .from-on))
+        go (inr (inr x)) = absurd x
+        go (inr (inl h)) = (n .passed c (h .0) (omega (arith, h .1, run-some)), omega (arith, h .1, run-some, m .from-on))
 
     covered-more : (c : ℕ) → has s c ≡ true → c < f → Any (Covers c) (w .runs ++ (run ∷ []))
     unfolding run
     covered-more c y l = go (decLt c first) (decLt c end)
       where
         go : Dec (c < first) → Dec (c < end) → Any (Covers c) (w .runs ++ (run ∷ []))
-        go (yes a) b = any-before c (w .runs) run (w .covered c y a)
-        go (no a) (yes b) = any-last c (w .runs) run (omega arith, omega arith)
+        go (yes a) b = any-left (Covers c) (w .runs) (run ∷ []) (w .covered c y a)
+        go (no a) (yes b) = any-right (Covers c) (w .runs) (run ∷ []) (inl (omega arith, omega arith))
         go (no a) (no b) = clash y (m .passed c (omega arith) l)
 
     pub listed-more : Listed s y r f

@@ -15,12 +15,13 @@ use Rattle.cpusets.specs.Answers.{numberOf}
 use Rattle.cpusets.specs.Characters.{character, IsDigit}
 use Rattle.cpusets.specs.Faults.{FirstFault}
 use Rattle.cpusets.specs.declared.Answer.{Answer}
-use Rattle.cpulists.specs.List.{IsNumber, Item, one, range, itemText, IsItem}
+use Rattle.cpulists.specs.List.{IsNumber, Item, one, range}
 use Rattle.cpulists.specs.Faults.{NumberAt, listFaults}
 use Rattle.cpulists.specs.Progress.{ReadsNumber, HalfRead, SecondAt, ReadsSecond, ItemAt, ReadsPiece, Walks}
 use Rattle.cpulists.specs.declared.Number.{Number}
 use Rattle.cpulists.specs.declared.Piece.{Piece}
 use Rattle.cpulists.specs.declared.Walk.{Walk}
+use Rattle.cpulists.proofs.Apart.{some-text}
 use Rattle.cpulists.proofs.Passing.{rest-split}
 
 -- ---- digits
@@ -108,8 +109,4 @@ range-item {n} {t} {first} {at} {r} H S = record {
 
 -- an item has a character
 pub item-further : {n : ℕ} {t : List ℕ} {at first last end : ℕ} → ItemAt n t at first last end → at < end
-item-further {at = at} I = rw (I .end-told) (go (I .item) (I .legal .item))
-  where
-    go : (i : Item) → IsItem i → at < at + length (itemText i)
-    go (one d) h = omega (arith, h .some)
-    go (range d e) h = omega (arith, length-append d (dash ∷ e))
+item-further I = omega (arith, I .end-told, some-text (I .item) (I .legal .item))

@@ -2,13 +2,13 @@
 use Prim.Native.Nat.{ℕ, _+_, _≤_, _<_}
 use mathlib.Core.Path.{_≡_, refl, sym, ap, _∙_}
 use mathlib.Core.Logic.{_⊎_, inl, inr}
-use mathlib.Core.Bool.{Bool, true, false}
+use mathlib.Core.Bool.{true, false}
 use mathlib.Core.List.{List, [], _∷_, map}
 use native.Mathlib.Decide.{decLt}
 use native.Mathlib.Omega.{arith}
 use Rattle.laws.specs.Decides.{Decides}
 use Rattle.laws.specs.Lists.{All, Any}
-use Rattle.laws.proofs.Deciding.{cases}
+use Rattle.laws.proofs.Deciding.{cases, decides-yes}
 use Rattle.masks.specs.Masks.{has}
 use Rattle.cpulists.specs.List.{listText, Run, Covers, Ascending, runItem, ListOf}
 use Rattle.cpulists.specs.Longest.{IsLongest}
@@ -59,11 +59,7 @@ lists-same c d (r ∷ xs) (q ∷ ys) a b h g =
 
 pub runs-same : (s : ℕ) (xs ys : List Run) → Ascending 0 xs → Ascending 0 ys → ((c : ℕ) → Decides (Any (Covers c) xs) (has s c)) → ((c : ℕ) → Decides (Any (Covers c) ys) (has s c))
     → xs ≡ ys
-runs-same s xs ys a b h g = lists-same 0 0 xs ys a b (record { each = λ k. over (h k) (g k) }) (record { each = λ k. over (g k) (h k) })
-  where
-    over : {P Q : Type 0} {t : Bool} → Decides P t → Decides Q t → P → Q
-    over {t = true} x y p = y .yes refl
-    over {t = false} x y p = absurd (x .no refl p)
+runs-same s xs ys a b h g = lists-same 0 0 xs ys a b (record { each = λ k i. g k .yes (decides-yes (h k) i) }) (record { each = λ k i. h k .yes (decides-yes (g k) i) })
 
 pub list-text-same : (s : ℕ) (t u : List ℕ) → ListOf s t → ListOf s u → t ≡ u
 list-text-same s t u v w = v .is ∙ ap (λ (rs : List Run). listText (map runItem rs)) (runs-same s (v .runs) (w .runs) (v .ascending) (w .ascending) (v .cores) (w .cores)) ∙ sym (w .is)
@@ -94,8 +90,4 @@ runs-longest s c (r ∷ rs) a h g = (
     no-fewer k l i = omega (arith, covers-from (r .first) k (r ∷ rs) (omega arith, a .1, a .2) i)
 
 pub longest : {s : ℕ} {t : List ℕ} (w : ListOf s t) → All (IsLongest s) (w .runs)
-longest {s} w = runs-longest s 0 (w .runs) (w .ascending) (λ k i. in-set k i (cases (has s k))) (λ k _. w .cores k .yes)
-  where
-    in-set : (k : ℕ) → Any (Covers k) (w .runs) → (has s k ≡ true) ⊎ (has s k ≡ false) → has s k ≡ true
-    in-set k i (inl t) = t
-    in-set k i (inr f) = absurd (w .cores k .no f i)
+longest {s} w = runs-longest s 0 (w .runs) (w .ascending) (λ k i. decides-yes (w .cores k) i) (λ k _. w .cores k .yes)

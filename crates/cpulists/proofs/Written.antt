@@ -1,15 +1,14 @@
 -- The text that we write means the set, and a reader finds nothing in it to refuse.
 use Prim.Native.Nat.{ℕ, _+_, _<_}
 use mathlib.Core.Path.{_≡_, refl, _∙_}
-use mathlib.Core.Logic.{_⊎_, inl, inr}
-use mathlib.Core.Bool.{true, false}
+use mathlib.Core.Logic.{inl, inr}
 use mathlib.Core.List.{List, [], _∷_, map}
 use native.Mathlib.Decide.{ℕ-discrete, decLt}
 use native.Mathlib.Omega.{arith}
 use borrow.Author.Tests.{eq-eqb, ne-eqb}
 use Rattle.laws.specs.Lists.{In, All, Any}
-use Rattle.laws.proofs.Deciding.{decides-by, cases}
-use Rattle.masks.specs.Masks.{has, NamesMissing}
+use Rattle.laws.proofs.Deciding.{decides-yes, decides-by}
+use Rattle.masks.specs.Masks.{NamesMissing}
 use Rattle.decimals.specs.Decimal.{decimal}
 use Rattle.decimals.proofs.Spelling.{decimal-some, decimal-digits, value-decimal}
 use Rattle.cpusets.specs.Characters.{IsDigit}
@@ -25,7 +24,7 @@ all-in (c ∷ t) h = (h c (inl refl), all-in t (λ d i. h d (inr i)))
 decimal-number : (n : ℕ) → IsNumber (decimal n)
 decimal-number n = record { some = decimal-some n; digits = all-in (decimal n) (decimal-digits n) }
 
-run-item : (r : Run) → IsItem (runItem r) × (firstOf (runItem r) ≡ r .first) × (lastOf (runItem r) ≡ r .last)
+pub run-item : (r : Run) → IsItem (runItem r) × (firstOf (runItem r) ≡ r .first) × (lastOf (runItem r) ≡ r .last)
 run-item r = go (ℕ-discrete (r .first) (r .last))
   where
     go : Dec (r .first ≡ r .last) → IsItem (runItem r) × (firstOf (runItem r) ≡ r .first) × (lastOf (runItem r) ≡ r .last)
@@ -65,11 +64,14 @@ legal-runs n c (r ∷ rs) a h =
       legal-runs n (r .last + 2) rs (a .2) (λ k i. h k (inr i)),
     )
 
--- where the set names no core at or above the limit
-pub list-of-legal : {n s : ℕ} {t : List ℕ} (w : ListOf s t) → (NamesMissing n s → ⊥) → All (IsLegal n) (map runItem (w .runs))
-list-of-legal {n} {s} w none = legal-runs n 0 (w .runs) (w .ascending) (λ k i. below k (decLt k n) (cases (has s k)) i)
+-- ---- where the set names no core at or above the limit
+
+pub covered-below : {n s : ℕ} {t : List ℕ} (w : ListOf s t) → (NamesMissing n s → ⊥) → (k : ℕ) → Any (Covers k) (w .runs) → k < n
+covered-below {n} w none k i = go (decLt k n)
   where
-    below : (k : ℕ) → Dec (k < n) → (has s k ≡ true) ⊎ (has s k ≡ false) → Any (Covers k) (w .runs) → k < n
-    below k (yes l) t i = l
-    below k (no l) (inl t) i = absurd (none (record { core = k; missing = omega arith; named = t }))
-    below k (no l) (inr f) i = absurd (w .cores k .no f i)
+    go : Dec (k < n) → k < n
+    go (yes l) = l
+    go (no l) = absurd (none (record { core = k; missing = omega arith; named = decides-yes (w .cores k) i }))
+
+pub list-of-legal : {n s : ℕ} {t : List ℕ} (w : ListOf s t) → (NamesMissing n s → ⊥) → All (IsLegal n) (map runItem (w .runs))
+list-of-legal {n} w none = legal-runs n 0 (w .runs) (w .ascending) (covered-below w none)

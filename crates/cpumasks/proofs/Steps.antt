@@ -11,7 +11,7 @@ use lib.Pow.{shl-exact}
 use lib.ListN.{length, take, List·getD-eq-default}
 use borrow.Author.Count.{below-more}
 use Rattle.laws.specs.Answering.{Applies}
-use Rattle.laws.proofs.Deciding.{clash, cases, decides-is, decides-by}
+use Rattle.laws.proofs.Deciding.{clash, cases, decides-yes, decides-is, decides-by}
 use Rattle.laws.proofs.Testing.{or-cases, or-left, or-right}
 use Rattle.masks.specs.Masks.{has, NamesMissing}
 use Rattle.masks.proofs.Bits.{has-zero, has-beyond}
@@ -22,7 +22,7 @@ use Rattle.cpusets.specs.Characters.{character}
 use Rattle.cpusets.specs.Faults.{Begins, IsUnexpected, FirstFault, Faultless}
 use Rattle.cpusets.specs.declared.Answer.{Answer}
 use Rattle.cpusets.specs.declared.Answer.the-variants.{Done}
-use Rattle.cpusets.proofs.Beginning.{expected, none-unexpected}
+use Rattle.cpusets.proofs.Beginning.{expected, none-unexpected, first-fault}
 use Rattle.cpumasks.specs.Mask.{IsHex, hexValue, maskSize, IsCommaPlace, IsPlaced, IsMaskText, placeOf, HasCore, MeansMask}
 use Rattle.cpumasks.specs.Faults.{HasAbove, maskFaults}
 use Rattle.cpumasks.specs.Progress.{lowestCore, MaskTo, WalksMask}
@@ -88,22 +88,15 @@ module _ {n words at set : ℕ} {t : List ℕ} (to : MaskTo n words t at set) (f
       go (inl x) = x .1 (begins-placed words (at + 1) t (omega (arith, there)) (omega (arith, inside)) upto)
       go (inr x) = omega (arith, x .0, there)
 
-  first-fault : (k : ℕ) → Applies (maskFaults n words t at) k → ((m : ℕ) → Applies (maskFaults n words t at) m → k ≡ m) → FirstFault (maskFaults n words t) k at
-  first-fault k there one = record { there = there; first = λ m p a. go m p a (past m p a) (ℕ-discrete p at) }
-    where
-      go : (m p : ℕ) → Applies (maskFaults n words t p) m → at ≤ p → Dec (p ≡ at) → (at < p) ⊎ ((at ≡ p) × (k ≡ m))
-      go m p a l (yes e) = inr (sym e, one m (rw e at a))
-      go m p a l (no e) = inl (omega arith)
-
   pub fault-unexpected : IsUnexpected (IsMaskText words) t at → FirstFault (maskFaults n words t) 17 at
-  fault-unexpected u = first-fault 17 (inl (refl, u)) one
+  fault-unexpected u = first-fault (inl (refl, u)) past one
     where
       one : (m : ℕ) → Applies (maskFaults n words t at) m → 17 ≡ m
       one m (inl (e, _)) = sym e
       one m (inr (inl (_, h))) = absurd (not-both u h)
 
   pub fault-above : HasAbove n words t at → FirstFault (maskFaults n words t) 19 at
-  fault-above h = first-fault 19 (inr (inl (refl, h))) one
+  fault-above h = first-fault (inr (inl (refl, h))) past one
     where
       one : (m : ℕ) → Applies (maskFaults n words t at) m → 19 ≡ m
       one m (inl (_, u)) = absurd (not-both u h)
@@ -224,11 +217,7 @@ means-all {words = words} to e = record {
 -- a text has no fault where the set that it means has no core at or above the limit
 pub means-faultless : {n words s : ℕ} {t : List ℕ} → (NamesMissing n s → ⊥) → MeansMask words t s → Faultless (maskFaults n words t)
 means-faultless none m k o (inl (_, u)) = none-unexpected (m .text) u
-means-faultless {s = s} none m k o (inr (inl (_, h))) = go (cases (has s (h .core)))
-  where
-    go : (has s (h .core) ≡ true) ⊎ (has s (h .core) ≡ false) → ⊥
-    go (inl y) = none (record { core = h .core; missing = h .above; named = y })
-    go (inr f) = m .cores (h .core) .no f (h .there)
+means-faultless none m k o (inr (inl (_, h))) = none (record { core = h .core; missing = h .above; named = decides-yes (m .cores (h .core)) (h .there) })
 
 pub to-below : {n words at set : ℕ} {t : List ℕ} → MaskTo n words t at set → NamesMissing n set → ⊥
 to-below to h =

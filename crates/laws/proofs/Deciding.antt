@@ -27,6 +27,11 @@ decides-same {a = true} {b = false} p q = absurd (q .no refl (p .yes refl))
 decides-same {a = false} {b = true} p q = absurd (p .no refl (q .yes refl))
 decides-same {a = false} {b = false} p q = refl
 
+-- where the claim holds the test is true
+pub decides-yes : {P : Type 0} {b : Bool} → Decides P b → P → b ≡ true
+decides-yes {b = true} d p = refl
+decides-yes {b = false} d p = absurd (d .no refl p)
+
 pub decides-true : {P : Type 0} → P → Decides P true
 decides-true p = record { yes = λ _. p; no = λ f. clash refl f }
 
