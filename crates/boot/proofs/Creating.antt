@@ -1,28 +1,27 @@
 -- An accepted load is the creates one after the other, and a refused one stops at the record whose create is refused, with its number.
 use Prim.Native.Nat.{ℕ, zero, suc, _+_, _≤_}
 use mathlib.Core.Path.{_≡_, refl}
-use mathlib.Core.Logic.{inl, inr}
 use mathlib.Core.List.{List, [], _∷_, _++_}
 use native.Mathlib.Numerals.{add-one}
 use native.Mathlib.Omega.{arith}
 use lib.ListN.{length, take}
 use lib.Seq.{take-suc, take-length}
 use Rattle.laws.specs.Lists.{All}
-use Rattle.laws.specs.Answering.{_when_, Answers}
+use Rattle.laws.specs.Answering.{Answers}
 use Rattle.laws.proofs.Lists.{all-at}
-use Rattle.laws.proofs.Answering.{none-applies, answers-by, answers-then, answers-none, answers-same}
+use Rattle.laws.proofs.Answering.{applies-right, answers-by, answers-then, answers-same}
 use Rattle.dispatcher.specs.Limits.{greatestPriority}
 use Rattle.dispatcher.specs.Slots.{noRecord, Shaped}
 use Rattle.dispatcher.specs.Sound.{Sound}
 use Rattle.dispatcher.specs.Answers.{numberOf}
-use Rattle.dispatcher.specs.Refusals.{IsUnsound}
+use Rattle.dispatcher.specs.Unsound.{unsoundRefusals}
 use Rattle.dispatcher.specs.Reports.{stillOf}
 use Rattle.dispatcher.specs.declared.Answer.the-variants.{Done}
 use Rattle.dispatcher.specs.declared.TaskRecord.{TaskRecord}
 use Rattle.dispatcher.specs.declared.Dispatcher.{Dispatcher}
 use Rattle.dispatcher.specs.declared.Outcome.{Outcome}
+use Rattle.dispatcher.proofs.Unsound.{sound-answers, sound-own, done-sound, sound-answered}
 use Rattle.dispatcher.proofs.Promises.{accepted}
-use Rattle.dispatcher.proofs.Stable.{not-unsound}
 use Rattle.tasks.proofs.Keeping.{create-keeps}
 use Rattle.boot.specs.Load.{recordAt, FirstRefused, AllOrNone}
 use Rattle.boot.specs.Creating.{CreatesRecord, CreatesAll}
@@ -33,8 +32,8 @@ use Rattle.boot.proofs.Filling.{withRecord, Filling, created-filling, f
 use Rattle.boot.proofs.Advancing.{loads-of}
 
 -- a sound dispatcher refuses a task for the entry's causes alone
-entry-of-create : {d : Dispatcher} {t : TaskRecord} {r : Outcome} → (IsUnsound d → ⊥) → CreatesRecord d t r → Answers (entryOf d t) (numberOf (r .report .answer))
-entry-of-create v C = answers-by (λ m a. elim a [ inl (_, u) ↦ absurd (v u) | inr b ↦ b ]) (λ m a. inr a) (C .answer)
+entry-of-create : {d : Dispatcher} {t : TaskRecord} {r : Outcome} → Sound d → CreatesRecord d t r → Answers (entryOf d t) (numberOf (r .report .answer))
+entry-of-create {d} {t} S C = answers-by (sound-own d S (entryOf d t)) (applies-right (unsoundRefusals d) (entryOf d t)) (C .answer)
 
 -- ---- an accepted load, and the records before a refused one, by creates
 
@@ -60,7 +59,7 @@ made {d} {list} L S bytes (suc k) l h = next (made L S bytes k (omega arith) (λ
     next m =
         let r : Outcome = record { report = stillOf Done; dispatcher = withRecord (m .dispatcher) (recordAt list k) } in
         let entry = record-entry (filling-alike (m .filling) (λ j i. h j (omega arith))) (h k (omega arith)) in
-        let answers = answers-then (1 when IsUnsound (m .dispatcher) ∷ []) _ (answers-none 1 (λ u. u (m .sound))) entry in
+        let answers = answers-then (unsoundRefusals (m .dispatcher)) _ (sound-answers (m .dispatcher) (m .sound)) entry in
         let C : CreatesRecord (m .dispatcher) (recordAt list k) r = accepted answers refl (record { written = refl; still = refl }) in
         let kept = create-keeps (m .shaped) (m .sound) (all-at (λ (t : TaskRecord). t .priority ≤ greatestPriority) list noRecord bytes k l) C in
         record {
@@ -74,15 +73,15 @@ made {d} {list} L S bytes (suc k) l h = next (made L S bytes k (omega arith) (λ
 pub load-creates : {d : Dispatcher} {list : List TaskRecord} {r : Outcome} → Shaped d → All (λ (t : TaskRecord). t .priority ≤ greatestPriority) list
     → AllOrNone d list r → numberOf (r .report .answer) ≡ 0 → CreatesAll d list (r .dispatcher)
 load-creates {d} {list} {r} L bytes F z =
-    let S = not-unsound d (λ u. none-applies (F .answer) z 1 (inl (refl, u))) in
-    let m = made {list = list} L S bytes (length list) (omega arith) (all-accepted (rw z at (F .answer))) in
+    let S = done-sound d (F .answer) z in
+    let m = made {list = list} L S bytes (length list) (omega arith) (all-accepted {d = d} {list = list} (rw z at (F .answer))) in
     rw (take-length list, filling-same (m .filling) (created-filling (F .done z))) at (m .creates)
 
 pub refused-create : {d : Dispatcher} {list : List TaskRecord} {i n : ℕ} → Shaped d → Sound d → All (λ (t : TaskRecord). t .priority ≤ greatestPriority) list
     → FirstRefused d list i n → (e : Dispatcher) × CreatesAll d (take i list) e × ((q : Outcome) → CreatesRecord e (recordAt list i) q → numberOf (q .report .answer) ≡ n)
 refused-create {list = list} {i} L S bytes f =
     let m = made {list = list} L S bytes i (omega (arith, f .within)) (f .earlier) in
-    (m .dispatcher, m .creates, λ q C. answers-same (entry-record (filling-alike (m .filling) (f .earlier)) (entry-of-create (λ u. u (m .sound)) C)) (f .number))
+    (m .dispatcher, m .creates, λ q C. answers-same (entry-record (filling-alike (m .filling) (f .earlier)) (entry-of-create (m .sound) C)) (f .number))
 
 -- ---- accepted creates, by a load
 
@@ -95,7 +94,7 @@ creates-advances d e i (t ∷ ts) (r, C, z, rest) = (
   done (r .dispatcher),
   record {
     passed = λ n. absurd (n refl);
-    judged = λ _. rw z at (entry-of-create (λ u. none-applies (C .answer) z 1 (inl (refl, u))) C);
+    judged = λ _. rw z at (entry-of-create (done-sound d (C .answer) z) C);
     created = λ _ _. (refl, C .done z .written);
     refused = λ _ n. absurd (n refl);
   },
@@ -104,6 +103,6 @@ creates-advances d e i (t ∷ ts) (r, C, z, rest) = (
 
 pub creates-load : {d e : Dispatcher} {list : List TaskRecord} → Shaped d → Sound d → CreatesAll d list e → AllOrNone d list (record { report = stillOf Done; dispatcher = e })
 creates-load {d} {e} {list} L S C = loads-of {s = done e} {r = record { report = record { report = stillOf Done; index = 0 }; dispatcher = e }} L
-    (record { answer = answers-none 1 (λ u. u S); index = refl; dispatcher = refl })
+    (record { answer = sound-answered S; index = refl; dispatcher = refl })
     (creates-advances d e 0 list C)
     (record { report = refl; index = refl; done = λ _. refl; refused = λ n. absurd (n refl) }) .all-or-none

@@ -41,4 +41,4 @@ load-keeps {d} {list} {r} L S bytes F = go (ℕ-discrete (numberOf (r .report .a
 -- where a load is done, the slots that it names were empty, so they were not ready
 pub loaded-off : {d : Dispatcher} {list : List TaskRecord} {r : Outcome} → Sound d → AllOrNone d list r → numberOf (r .report .answer) ≡ 0
     → (i : ℕ) → i < length list → Ready d (recordAt list i .slot) → ⊥
-loaded-off S F z i l q = none-applies (all-accepted (rw z at (F .answer)) i l) refl 4 (inr (inl (refl, inl (ready-used S q))))
+loaded-off {d} {list} S F z i l q = none-applies (all-accepted {d = d} {list = list} (rw z at (F .answer)) i l) refl 4 (inr (inl (refl, inl (ready-used S q))))

@@ -1,4 +1,4 @@
-mod Refusing
+pub mod Refusing
 mod Filling
 mod Advancing
 pub mod Same

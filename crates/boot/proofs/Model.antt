@@ -1,25 +1,22 @@
--- What load does, as a function that computes, over what the test of soundness says; and that it meets the promise.
+-- What load does, as a function that computes, over what the check of soundness says; and that it meets the promise.
 use Prim.Native.Nat.{ℕ, _+_}
 use mathlib.Core.Path.{_≡_, refl}
 use mathlib.Core.Logic.{_⊎_, inl, inr}
-use mathlib.Core.Bool.{Bool, true, false, not, cond}
+use mathlib.Core.Bool.{true, false, cond}
 use mathlib.Core.List.{List, [], _∷_}
-use native.Mathlib.Omega.{arith}
 use lib.Dec.{eqb}
 use borrow.Author.Tests.{eq-eqb, ne-eqb}
-use Rattle.laws.specs.Decides.{Decides}
-use Rattle.laws.specs.Answering.{_when_}
-use Rattle.laws.proofs.Deciding.{cases, decides-not}
+use Rattle.laws.proofs.Deciding.{cases}
 use Rattle.laws.proofs.Testing.{eqb-eq, eqb-ne}
 use Rattle.dispatcher.specs.Slots.{Shaped}
-use Rattle.dispatcher.specs.Sound.{Sound}
 use Rattle.dispatcher.specs.Answers.{numberOf}
-use Rattle.dispatcher.specs.Refusals.{IsUnsound}
-use Rattle.dispatcher.specs.declared.Answer.the-variants.{NotSound}
+use Rattle.dispatcher.specs.Unsound.{unsoundRefusals}
+use Rattle.dispatcher.specs.Promise.{Answered}
+use Rattle.dispatcher.specs.declared.Answer.{Answer}
 use Rattle.dispatcher.specs.declared.TaskRecord.{TaskRecord}
 use Rattle.dispatcher.specs.declared.Dispatcher.{Dispatcher}
 use Rattle.dispatcher.specs.declared.Outcome.{Outcome}
-use Rattle.dispatcher.proofs.Judging.{test, firstOf, judged}
+use Rattle.dispatcher.proofs.Judging.{firstOf}
 use Rattle.tasks.proofs.Model.{entryTests, entry-answers, settled}
 use Rattle.boot.specs.Load.{outcomeOf, AllOrNone}
 use Rattle.boot.specs.Loading.{Begins, Advances, AdvancesAll, Ends}
@@ -28,11 +25,12 @@ use Rattle.boot.specs.declared.Loaded.{Loaded}
 use Rattle.boot.proofs.Filling.{withRecord}
 use Rattle.boot.proofs.Advancing.{loads-of}
 
-abbrev startOf : Bool → Dispatcher → Loading
-startOf sound d = record { answer = firstOf (test (not sound) NotSound ∷ []); index = 0; dispatcher = d }
+-- j is what the check of soundness says
+abbrev startOf : Answer → Dispatcher → Loading
+startOf j d = record { answer = j; index = 0; dispatcher = d }
 
-start-begins : {b : Bool} (d : Dispatcher) → Decides (Sound d) b → Begins d (startOf b d)
-start-begins {b} d s = record { answer = judged 0 (1 when IsUnsound d ∷ []) (test (not b) NotSound ∷ []) (decides-not s, refl, omega arith, tt); index = refl; dispatcher = refl }
+start-begins : {d : Dispatcher} (j : Answer) → Answered (unsoundRefusals d) d j → Begins d (startOf j d)
+start-begins j s = record { answer = s; index = refl; dispatcher = refl }
 
 -- record i, where none was refused
 abbrev entered : Loading → ℕ → TaskRecord → Loading
@@ -69,8 +67,8 @@ endOf d s = let o = settled (s .answer) d (s .dispatcher) in record { report = r
 end-ends : (d : Dispatcher) (s : Loading) → Ends d s (endOf d s)
 end-ends d s = record { report = refl; index = refl; done = λ z. rw (eq-eqb (numberOf (s .answer)) 0 z) refl; refused = λ z. rw (ne-eqb (numberOf (s .answer)) 0 z) refl }
 
-abbrev pub loadOf : Bool → Dispatcher → List TaskRecord → Outcome
-loadOf sound d list = outcomeOf (endOf d (allOf 0 (startOf sound d) list))
+abbrev pub loadOf : Answer → Dispatcher → List TaskRecord → Outcome
+loadOf j d list = outcomeOf (endOf d (allOf 0 (startOf j d) list))
 
-pub load-loads : {b : Bool} (d : Dispatcher) (list : List TaskRecord) → Shaped d → Decides (Sound d) b → AllOrNone d list (loadOf b d list)
-load-loads {b} d list L s = loads-of L (start-begins d s) (all-advance 0 (startOf b d) list) (end-ends d (allOf 0 (startOf b d) list)) .all-or-none
+pub load-loads : {d : Dispatcher} (j : Answer) (list : List TaskRecord) → Shaped d → Answered (unsoundRefusals d) d j → AllOrNone d list (loadOf j d list)
+load-loads {d} j list L s = loads-of L (start-begins j s) (all-advance 0 (startOf j d) list) (end-ends d (allOf 0 (startOf j d) list)) .all-or-none

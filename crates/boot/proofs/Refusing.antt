@@ -9,17 +9,18 @@ use native.Mathlib.Omega.{arith}
 use lib.ListN.{length}
 use lib.Dec.{eqb}
 use Rattle.laws.specs.Lowest.{Lowest}
-use Rattle.laws.specs.Answering.{Refusal, Applies, Answers}
+use Rattle.laws.specs.Answering.{Refusal, Applies, turnOf, Answers}
 use Rattle.laws.proofs.Testing.{eqb-eq, eqb-ne}
 use Rattle.laws.proofs.Lowering.{lowest-same}
 use Rattle.laws.proofs.Counting.{find}
-use Rattle.laws.proofs.Answering.{answers-by, none-applies, answers-same}
-use Rattle.dispatcher.specs.Refusals.{IsUnsound, IsInUse}
+use Rattle.laws.proofs.Answering.{AllLater, none-applies, answers-by, answers-same}
+use Rattle.dispatcher.specs.Refusals.{IsInUse}
 use Rattle.dispatcher.specs.declared.TaskRecord.{TaskRecord}
 use Rattle.dispatcher.specs.declared.Dispatcher.{Dispatcher}
+use Rattle.dispatcher.proofs.Unsound.{IsLater, done-own}
 use Rattle.tasks.specs.Create.{entryRefusals}
 use Rattle.tasks.proofs.Model.{entry-answers}
-use Rattle.boot.specs.Load.{recordAt, NamedBefore, recordRefusals, FirstRefused, RecordGives, loadRefusals}
+use Rattle.boot.specs.Load.{recordAt, NamedBefore, recordRefusals, FirstRefused, RecordGives, listRefusals, loadRefusals}
 
 -- one of the first k records names slot s; none does
 abbrev pub NamedBy : List TaskRecord → ℕ → ℕ → Type 0
@@ -77,14 +78,14 @@ module _ (d : Dispatcher) (list : List TaskRecord) (k : ℕ) (before : Accepted 
 
   -- a slot named twice is refused at its second place, with number 4
   named-twice : NamedBefore list k → Answers (recordRefusals d list k) 4
-  named-twice (j, l, e) = record { listed = λ _. inr (inl (refl, inr (j, l, e))); lowest = low }
+  named-twice (j, l, e) = record { listed = λ _. inr (inl (refl, inr (j, l, e))); first = low }
     where
-      low : (m : ℕ) → Applies (recordRefusals d list k) m → (0 < 4) × (4 ≤ m)
+      low : (m : ℕ) → Applies (recordRefusals d list k) m → (0 < 4) × (turnOf 4 ≤ turnOf m)
       low m (inl (_, above)) = absurd (none-applies (before j l) refl 3 (inl (refl, rw e above)))
-      low m (inr (inl (q, _))) = omega arith
-      low m (inr (inr (inl (q, _)))) = omega arith
-      low m (inr (inr (inr (inl (q, _))))) = omega arith
-      low m (inr (inr (inr (inr (inl (q, _)))))) = omega arith
+      low m (inr (inl (q, _))) = rw q (omega arith)
+      low m (inr (inr (inl (q, _)))) = rw q (omega arith)
+      low m (inr (inr (inr (inl (q, _))))) = rw q (omega arith)
+      low m (inr (inr (inr (inr (inl (q, _)))))) = rw q (omega arith)
       low m (inr (inr (inr (inr (inr a))))) = absurd a
 
   record-answers : (n : ℕ) × Answers (recordRefusals d list k) n
@@ -95,6 +96,10 @@ module _ (d : Dispatcher) (list : List TaskRecord) (k : ℕ) (before : Accepted 
       go (inr never) =
           let same : Alike d list k d = record { cores = refl; since = inl; still = λ h. elim h [ inl u ↦ u | inr (j, l, e) ↦ absurd (never j l e) ] } in
           (_, entry-record same (entry-answers d (recordAt list k .slot) (recordAt list k .priority) (recordAt list k .mask)))
+
+-- none of a list's rows is checked first
+pub list-later : (d : Dispatcher) (list : List TaskRecord) → AllLater (listRefusals d list)
+list-later d list = (omega arith, (omega arith, (omega arith, (omega arith, (omega arith, tt)))))
 
 -- ---- the first refused record
 
@@ -119,54 +124,44 @@ module _ {d : Dispatcher} {list : List TaskRecord} where
       go (inr (inr (inr (inr (inl (q, _)))))) = rw q eight
       go (inr (inr (inr (inr (inr a))))) = absurd a
 
-  gives : {i n : ℕ} → FirstRefused d list i n → Applies (loadRefusals d list) n
-  gives {i} f = by-number (λ m. FirstRefused d list i m → Applies (loadRefusals d list) m)
+  gives : {i n : ℕ} → FirstRefused d list i n → Applies (listRefusals d list) n
+  gives {i} f = by-number (λ m. FirstRefused d list i m → Applies (listRefusals d list) m)
+      (λ g. inl (refl, (i, g)))
       (λ g. inr (inl (refl, (i, g))))
       (λ g. inr (inr (inl (refl, (i, g)))))
       (λ g. inr (inr (inr (inl (refl, (i, g))))))
       (λ g. inr (inr (inr (inr (inl (refl, (i, g)))))))
-      (λ g. inr (inr (inr (inr (inr (inl (refl, (i, g))))))))
       f f
 
-  given : {n : ℕ} → Applies (loadRefusals d list) n → ((n ≡ 1) × IsUnsound d) ⊎ RecordGives d list n
-  given (inl a) = inl a
-  given (inr (inl (q, g))) = inr (rw q g)
-  given (inr (inr (inl (q, g)))) = inr (rw q g)
-  given (inr (inr (inr (inl (q, g))))) = inr (rw q g)
-  given (inr (inr (inr (inr (inl (q, g)))))) = inr (rw q g)
-  given (inr (inr (inr (inr (inr (inl (q, g))))))) = inr (rw q g)
-  given (inr (inr (inr (inr (inr (inr a)))))) = absurd a
+  given : {n : ℕ} → Applies (listRefusals d list) n → RecordGives d list n
+  given (inl (q, g)) = rw q g
+  given (inr (inl (q, g))) = rw q g
+  given (inr (inr (inl (q, g)))) = rw q g
+  given (inr (inr (inr (inl (q, g))))) = rw q g
+  given (inr (inr (inr (inr (inl (q, g)))))) = rw q g
+  given (inr (inr (inr (inr (inr a))))) = absurd a
 
-  -- no record is refused with number 1
-  pub not-one : {i n : ℕ} → FirstRefused d list i n → n ≢ 1
-  not-one f e = let l = by-number (λ m. 2 < m) (omega arith) (omega arith) (omega arith) (omega arith) (omega arith) f in omega arith
+  -- no record is refused with a number that is checked first
+  pub record-later : {i n : ℕ} → FirstRefused d list i n → IsLater n
+  record-later f = by-number IsLater (omega arith) (omega arith) (omega arith) (omega arith) (omega arith) f
 
   -- ---- what a load answers
 
-  pub unsound-answers : IsUnsound d → Answers (loadRefusals d list) 1
-  unsound-answers u = record { listed = λ _. inl (refl, u); lowest = λ m a. low m (given a) }
+  pub refused-answers : {i n : ℕ} → FirstRefused d list i n → Answers (listRefusals d list) n
+  refused-answers {n = n} f = record { listed = λ _. gives f; first = λ m a. low m (given a) }
     where
-      low : (m : ℕ) → ((m ≡ 1) × IsUnsound d) ⊎ RecordGives d list m → (0 < 1) × (1 ≤ m)
-      low m (inl (e, _)) = omega arith
-      low m (inr (i, f)) = omega (arith, f .refused)
+      low : (m : ℕ) → RecordGives d list m → (0 < n) × (turnOf n ≤ turnOf m)
+      low m (j, g) = rw (sym (first-same f g .1)) (omega (arith, f .refused), omega arith)
 
-  pub refused-answers : {i n : ℕ} → (IsUnsound d → ⊥) → FirstRefused d list i n → Answers (loadRefusals d list) n
-  refused-answers {n = n} s f = record { listed = λ _. gives f; lowest = λ m a. low m (given a) }
+  pub accepted-answers : Accepted d list (length list) → Answers (listRefusals d list) 0
+  accepted-answers all = record { listed = λ z. absurd (z refl); first = λ m a. low m (given a) }
     where
-      low : (m : ℕ) → ((m ≡ 1) × IsUnsound d) ⊎ RecordGives d list m → (0 < n) × (n ≤ m)
-      low m (inl (_, u)) = absurd (s u)
-      low m (inr (j, g)) = omega (arith, f .refused, first-same f g .1)
-
-  pub accepted-answers : (IsUnsound d → ⊥) → Accepted d list (length list) → Answers (loadRefusals d list) 0
-  accepted-answers s all = record { listed = λ z. absurd (z refl); lowest = λ m a. low m (given a) }
-    where
-      low : (m : ℕ) → ((m ≡ 1) × IsUnsound d) ⊎ RecordGives d list m → (0 < 0) × (0 ≤ m)
-      low m (inl (_, u)) = absurd (s u)
-      low m (inr (j, g)) = absurd (g .refused (answers-same (g .number) (all j (g .within))))
+      low : (m : ℕ) → RecordGives d list m → (0 < 0) × (turnOf 0 ≤ turnOf m)
+      low m (j, g) = absurd (g .refused (answers-same (g .number) (all j (g .within))))
 
   -- ---- and the other way
 
-  accepted-below : Answers (loadRefusals d list) 0 → (k : ℕ) → k ≤ length list → Accepted d list k
+  accepted-below : Answers (listRefusals d list) 0 → (k : ℕ) → k ≤ length list → Accepted d list k
   accepted-below h zero l = λ j m. absurd (omega arith)
   accepted-below h (suc k) l = go (accepted-below h k (omega arith))
     where
@@ -179,4 +174,4 @@ module _ {d : Dispatcher} {list : List TaskRecord} where
 
   -- where a load is done, no record is refused
   pub all-accepted : Answers (loadRefusals d list) 0 → Accepted d list (length list)
-  all-accepted h = accepted-below h (length list) (omega arith)
+  all-accepted h = accepted-below (done-own d (listRefusals d list) h refl) (length list) (omega arith)

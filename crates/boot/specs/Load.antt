@@ -1,14 +1,17 @@
 -- Document 01, "Load": the kernel hands its boot list as a run of task records. All are created in order, or none: the answer names the
--- first refused record's index and number, and index 0 with number 0 or 1. A slot named twice is refused at its second place, with number 4.
+-- first refused record's index and number, and index 0 with number 0 or, by request 3, 21 to 25. A slot named twice is refused at its
+-- second place, with number 4.
 use Prim.Native.Nat.{ℕ, _<_}
 use mathlib.Core.Path.{_≡_}
 use mathlib.Core.Logic.{_≢_, _⊎_}
-use mathlib.Core.List.{List, [], _∷_}
+use mathlib.Core.List.{List, [], _∷_, _++_}
 use lib.ListN.{length, getD}
-use Rattle.laws.specs.Answering.{Refusal, _when_, Answers}
+use Rattle.laws.specs.Lists.{In}
+use Rattle.laws.specs.Answering.{Refusal, _when_, checkedFirst, Answers}
 use Rattle.dispatcher.specs.Slots.{taskAt, taskOf, noRecord}
 use Rattle.dispatcher.specs.Answers.{numberOf}
-use Rattle.dispatcher.specs.Refusals.{IsUnsound, IsAbove, IsInUse, IsPriorityZero, IsMaskEmpty, IsMissingCore}
+use Rattle.dispatcher.specs.Refusals.{IsAbove, IsInUse, IsPriorityZero, IsMaskEmpty, IsMissingCore}
+use Rattle.dispatcher.specs.Unsound.{unsoundRefusals}
 use Rattle.dispatcher.specs.Reports.{stillOf}
 use Rattle.dispatcher.specs.Promise.{Promised}
 use Rattle.dispatcher.specs.declared.TaskRecord.{TaskRecord}
@@ -43,14 +46,17 @@ pub record FirstRefused (d : Dispatcher) (list : List TaskRecord) (i n : ℕ) : 
 abbrev pub RecordGives : Dispatcher → List TaskRecord → ℕ → Type 0
 RecordGives d list n = (i : ℕ) × FirstRefused d list i n
 
-abbrev pub loadRefusals : Dispatcher → List TaskRecord → List Refusal
-loadRefusals d list =
-    1 when IsUnsound d ∷
+-- why a sound dispatcher refuses the list
+abbrev pub listRefusals : Dispatcher → List TaskRecord → List Refusal
+listRefusals d list =
     3 when RecordGives d list 3 ∷
     4 when RecordGives d list 4 ∷
     6 when RecordGives d list 6 ∷
     7 when RecordGives d list 7 ∷
     8 when RecordGives d list 8 ∷ []
+
+abbrev pub loadRefusals : Dispatcher → List TaskRecord → List Refusal
+loadRefusals d list = unsoundRefusals d ++ listRefusals d list
 
 -- each record's slot holds its task, the other slots what they held, and the rest is as it was: nobody moves, starts or stops
 pub record AllCreated (d : Dispatcher) (list : List TaskRecord) (r : Outcome) : Type 0 where
@@ -71,8 +77,8 @@ outcomeOf r = record { report = r .report .report; dispatcher = r .dispatcher }
 
 -- the index that goes with the number n
 pub record Names (d : Dispatcher) (list : List TaskRecord) (n index : ℕ) : Type 0 where
-  pub whole : (n ≡ 0) ⊎ (n ≡ 1) → index ≡ 0
-  pub record-number : n ≢ 0 → n ≢ 1 → FirstRefused d list index n
+  pub whole : (n ≡ 0) ⊎ In n checkedFirst → index ≡ 0
+  pub record-number : n ≢ 0 → (In n checkedFirst → ⊥) → FirstRefused d list index n
 
 pub record Loads (d : Dispatcher) (list : List TaskRecord) (r : Loaded) : Type 0 where
   pub all-or-none : AllOrNone d list (outcomeOf r)

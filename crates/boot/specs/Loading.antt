@@ -3,11 +3,12 @@ use Prim.Native.Nat.{ℕ, _+_}
 use mathlib.Core.Path.{_≡_}
 use mathlib.Core.Logic.{_≢_}
 use mathlib.Core.List.{List, [], _∷_}
-use Rattle.laws.specs.Answering.{_when_, Answers}
+use Rattle.laws.specs.Answering.{Answers}
 use Rattle.dispatcher.specs.Slots.{taskOf}
 use Rattle.dispatcher.specs.Answers.{numberOf}
-use Rattle.dispatcher.specs.Refusals.{IsUnsound}
+use Rattle.dispatcher.specs.Unsound.{unsoundRefusals}
 use Rattle.dispatcher.specs.Reports.{stillOf}
+use Rattle.dispatcher.specs.Promise.{Answered}
 use Rattle.dispatcher.specs.declared.TaskRecord.{TaskRecord}
 use Rattle.dispatcher.specs.declared.Dispatcher.{Dispatcher}
 use Rattle.tasks.specs.Table.{withTask}
@@ -17,7 +18,7 @@ use Rattle.boot.specs.declared.Loaded.{Loaded}
 
 -- no record was looked at yet
 pub record Begins (d : Dispatcher) (s : Loading) : Type 0 where
-  pub answer : Answers (1 when IsUnsound d ∷ []) (numberOf (s .answer))
+  pub answer : Answered (unsoundRefusals d) d (s .answer)
   pub index : s .index ≡ 0
   pub dispatcher : s .dispatcher ≡ d
 

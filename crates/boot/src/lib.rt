@@ -29,15 +29,9 @@ struct Loading {
 fn start(d: Dispatcher) -> Loading
     ensures { λ r. ⌜ Begins d r ⌝ }
 {
-    if !soundness::sound(d) {
-        return Loading {
-            answer: Answer::NotSound,
-            index: 0,
-            dispatcher: d,
-        };
-    }
+    let unsound = soundness::check(d);
     Loading {
-        answer: Answer::Done,
+        answer: unsound,
         index: 0,
         dispatcher: d,
     }

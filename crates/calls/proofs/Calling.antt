@@ -1,11 +1,11 @@
 -- Over all calls: one result, soundness kept, and a model that computes on a sound dispatcher.
 use mathlib.Core.Path.{_≡_}
-use mathlib.Core.Bool.{true}
-use Rattle.laws.proofs.Deciding.{decides-true}
 use Rattle.dispatcher.specs.Slots.{Shaped}
 use Rattle.dispatcher.specs.Sound.{Sound}
+use Rattle.dispatcher.specs.declared.Answer.the-variants.{Done}
 use Rattle.dispatcher.specs.declared.Dispatcher.{Dispatcher}
 use Rattle.dispatcher.specs.declared.Outcome.{Outcome}
+use Rattle.dispatcher.proofs.Unsound.{sound-answered}
 use Rattle.tasks.proofs.Model.{createOf, create-creates}
 use Rattle.tasks.proofs.Same.{creates-same}
 use Rattle.tasks.proofs.Keeping.{create-keeps}
@@ -35,15 +35,15 @@ does-keeps (wake slot) r f L S h = wake-keeps L S h
 does-keeps (block slot) r f L S h = block-keeps L S h
 
 abbrev pub modelOf : Call → Dispatcher → Outcome
-modelOf (create slot priority mask) d = createOf true d slot priority mask
-modelOf (delete slot) d = deleteOf true d slot
-modelOf (load list) d = loadOf true d list
-modelOf (wake slot) d = wakeOf true d slot
-modelOf (block slot) d = blockOf true d slot
+modelOf (create slot priority mask) d = createOf Done d slot priority mask
+modelOf (delete slot) d = deleteOf Done d slot
+modelOf (load list) d = loadOf Done d list
+modelOf (wake slot) d = wakeOf Done d slot
+modelOf (block slot) d = blockOf Done d slot
 
 pub model-does : (c : Call) {d : Dispatcher} → Shaped d → Sound d → Does c d (modelOf c d)
-model-does (create slot priority mask) {d} L S = create-creates d slot priority mask (decides-true S)
-model-does (delete slot) {d} L S = delete-deletes d slot L (decides-true S)
-model-does (load list) {d} L S = load-loads d list L (decides-true S)
-model-does (wake slot) {d} L S = wake-wakes d slot L (decides-true S)
-model-does (block slot) {d} L S = block-blocks d slot L (decides-true S)
+model-does (create slot priority mask) L S = create-creates Done slot priority mask (sound-answered S)
+model-does (delete slot) L S = delete-deletes Done slot L (sound-answered S)
+model-does (load list) L S = load-loads Done list L (sound-answered S)
+model-does (wake slot) L S = wake-wakes Done slot L (sound-answered S)
+model-does (block slot) L S = block-blocks Done slot L (sound-answered S)

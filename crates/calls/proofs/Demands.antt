@@ -1,14 +1,13 @@
 -- Demands 2 and 3 after any sequence of calls on a fresh dispatcher; and that a refusal has its listed cause.
 use Prim.Native.Nat.{ℕ}
-use mathlib.Core.Path.{_≡_, refl}
-use mathlib.Core.Logic.{_≢_, inl, inr, _↔_}
-use mathlib.Core.Bool.{Bool, true, false, _||_}
-use mathlib.Core.List.{List, [], _∷_}
+use mathlib.Core.Path.{_≡_}
+use mathlib.Core.Logic.{_≢_, _↔_}
+use mathlib.Core.List.{List, [], _∷_, _++_}
 use native.Mathlib.Omega.{arith}
-use lib.Dec.{eqb}
-use Rattle.laws.specs.Answering.{Refusal, _when_, Applies}
-use Rattle.laws.proofs.Deciding.{clash}
-use Rattle.laws.proofs.Testing.{eqb-true, or-left}
+use lib.ListN.{length}
+use Rattle.laws.specs.Lists.{In}
+use Rattle.laws.specs.Answering.{Refusal, _when_, Applies, checkedFirst}
+use Rattle.laws.proofs.Answering.{AllLater, from-applies}
 use Rattle.seating.specs.Running.{Running}
 use Rattle.seating.proofs.Ranks.{keeps-same}
 use Rattle.dispatcher.specs.Limits.{none}
@@ -16,17 +15,18 @@ use Rattle.dispatcher.specs.Slots.{seatAt, Ready, Shaped}
 use Rattle.dispatcher.specs.Sound.{Sound}
 use Rattle.dispatcher.specs.Answers.{numberOf}
 use Rattle.dispatcher.specs.Fresh.{Freshly}
-use Rattle.dispatcher.specs.Refusals.{IsUnsound}
+use Rattle.dispatcher.specs.Refusals.{IsAlreadyReady, IsNotReady}
+use Rattle.dispatcher.specs.Unsound.{unsoundRefusals}
 use Rattle.dispatcher.specs.declared.Dispatcher.{Dispatcher}
 use Rattle.dispatcher.specs.declared.Outcome.{Outcome}
+use Rattle.dispatcher.proofs.Unsound.{not-first, sound-own, unsound-told}
 use Rattle.dispatcher.proofs.Freshness.{freshly-keeps}
 use Rattle.shifting.specs.Rule.{KeepsIn, LeastIn}
 use Rattle.shifting.proofs.Board.{ranked}
-use Rattle.tasks.specs.Create.{createRefusals}
-use Rattle.boot.specs.Load.{loadRefusals}
-use Rattle.readiness.specs.Wake.{wakeRefusals}
-use Rattle.readiness.specs.Block.{blockRefusals}
-use Rattle.deletion.specs.Delete.{deleteRefusals}
+use Rattle.tasks.specs.Named.{slotRefusals}
+use Rattle.tasks.specs.Create.{entryRefusals}
+use Rattle.boot.specs.Load.{listRefusals}
+use Rattle.boot.proofs.Refusing.{list-later}
 use Rattle.calls.specs.Call.{Call, create, delete, load, wake, block, Does, refusalsOf}
 use Rattle.calls.specs.Sequence.{Step, After}
 use Rattle.calls.specs.Woken.{WokenSince}
@@ -72,37 +72,30 @@ refused-with-cause (load list) d r h = h .answer .listed
 refused-with-cause (wake slot) d r h = h .answer .listed
 refused-with-cause (block slot) d r h = h .answer .listed
 
-abbrev later : List Refusal → List Refusal
-later [] = []
-later (r ∷ rs) = rs
+-- whatever else applies, a dispatcher that is not sound is refused for that
+pub unsound-before-all : (c : Call) (d : Dispatcher) (r : Outcome) → Does c d r → (Sound d → ⊥) → In (numberOf (r .report .answer)) checkedFirst
+unsound-before-all (create slot priority mask) d r h = unsound-told d (h .answer)
+unsound-before-all (delete slot) d r h = unsound-told d (h .answer)
+unsound-before-all (load list) d r h = unsound-told d (h .answer)
+unsound-before-all (wake slot) d r h = unsound-told d (h .answer)
+unsound-before-all (block slot) d r h = unsound-told d (h .answer)
 
--- some row has the number n
-abbrev named : ℕ → List Refusal → Bool
-named n [] = false
-named n (r ∷ rs) = eqb n (r .number) || named n rs
+-- on a sound dispatcher none of the numbers that are checked first applies
+unsound-never : {d : Dispatcher} (rs : List Refusal) → AllLater rs → Sound d → (n : ℕ) → In n checkedFirst → Applies (unsoundRefusals d ++ rs) n → ⊥
+unsound-never {d} rs later S n i a = not-first n (from-applies (length checkedFirst) rs n later (sound-own d S rs n a)) i
 
-neither : (a b : Bool) → a || b ≡ false → b ≡ false
-neither true b h = clash refl h
-neither false b h = h
-
-not-named : (n : ℕ) (rs : List Refusal) → named n rs ≡ false → Applies rs n → ⊥
-not-named n [] f a = a
-not-named n (r ∷ rs) f (inl (e, c)) = clash (or-left (named n rs) (eqb-true e)) f
-not-named n (r ∷ rs) f (inr a) = not-named n rs (neither (eqb n (r .number)) (named n rs) f) a
-
-unsound-only : {d : Dispatcher} (rs : List Refusal) → named 1 rs ≡ false → Sound d → Applies (1 when IsUnsound d ∷ rs) 1 → ⊥
-unsound-only rs f S (inl (e, bad)) = bad S
-unsound-only rs f S (inr a) = not-named 1 rs f a
-
-pub never-unsound : (n : ℕ) (l : List Step) (d : Dispatcher) (c : Call) (r : Outcome) → After n l d → Does c d r → numberOf (r .report .answer) ≢ 1
-never-unsound n l d c r h does e = go c (rw e at (refused-with-cause c d r does (rw e (λ z. omega arith))))
+pub never-unsound : (n : ℕ) (l : List Step) (d : Dispatcher) (c : Call) (r : Outcome) → After n l d → Does c d r → In (numberOf (r .report .answer)) checkedFirst → ⊥
+never-unsound n l d c r h does i = go c (refused-with-cause c d r does (λ z. not-first 0 (omega arith) (rw z at i)))
   where
-    go : (c : Call) → Applies (refusalsOf c d) 1 → ⊥
-    go (create slot priority mask) = unsound-only (later (createRefusals d slot priority mask)) refl (sound-after n l d h .1)
-    go (delete slot) = unsound-only (later (deleteRefusals d slot)) refl (sound-after n l d h .1)
-    go (load list) = unsound-only (later (loadRefusals d list)) refl (sound-after n l d h .1)
-    go (wake slot) = unsound-only (later (wakeRefusals d slot)) refl (sound-after n l d h .1)
-    go (block slot) = unsound-only (later (blockRefusals d slot)) refl (sound-after n l d h .1)
+    S : Sound d
+    S = sound-after n l d h .1
+
+    go : (c : Call) → Applies (refusalsOf c d) (numberOf (r .report .answer)) → ⊥
+    go (create slot priority mask) = unsound-never (entryRefusals d slot priority mask) (omega arith, (omega arith, (omega arith, (omega arith, (omega arith, tt))))) S _ i
+    go (delete slot) = unsound-never (slotRefusals d slot) (omega arith, (omega arith, tt)) S _ i
+    go (load list) = unsound-never (listRefusals d list) (list-later d list) S _ i
+    go (wake slot) = unsound-never (slotRefusals d slot ++ (9 when IsAlreadyReady d slot ∷ [])) (omega arith, (omega arith, (omega arith, tt))) S _ i
+    go (block slot) = unsound-never (slotRefusals d slot ++ (10 when IsNotReady d slot ∷ [])) (omega arith, (omega arith, (omega arith, tt))) S _ i
 
 -- ---- who runs is fixed by who is ready
 

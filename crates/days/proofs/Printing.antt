@@ -9,7 +9,6 @@ use native.Mathlib.Numerals.{add-one}
 use lib.ListN.{length, take, drop, length-append, length-drop}
 use lib.Seq.{take-at, drop-at, take-all, drop-length, drop-drop}
 use borrow.Rule.Slice.PartMut.{putMid}
-use Rattle.dispatcher.specs.Answers.{numberOf}
 use Rattle.dispatcher.specs.declared.Dispatcher.{Dispatcher}
 use Rattle.days.specs.declared.Stepped.{Stepped}
 use Rattle.days.specs.Step.{Steps}
@@ -73,7 +72,7 @@ module _ {b : List ℕ} {k : ℕ} {d e : Dispatcher} {before after : List ℕ} {
     pub stays : r .written .length ≡ 0 → putMid size (length after - size) after part ≡ s .text ++ drop (length (s .text)) before
     stays none = back part ∙ ap (λ (l : List ℕ). s .text ++ l) (nothing-kept steps none)
 
-    pub stops : r .written .length ≡ 0 → Stops b (k + s .made) e (drop (length (s .text)) before) (numberOf (r .written .answer))
+    pub stops : r .written .length ≡ 0 → Stops b (k + s .made) e (drop (length (s .text)) before) (r .written .answer)
     stops none = record {
       step = r;
       after = part;

@@ -9,13 +9,15 @@ use native.Mathlib.Omega.{arith}
 use lib.ListN.{length, take, drop, length-append, length-drop}
 use Rattle.laws.specs.Answering.{Applies}
 use Rattle.dispatcher.specs.Answers.{numberOf}
+use Rattle.dispatcher.specs.declared.Answer.{Answer}
 use Rattle.dispatcher.specs.declared.Dispatcher.{Dispatcher}
 use Rattle.dispatcher.specs.declared.Outcome.{Outcome}
 use Rattle.dispatcher.proofs.Stable.{by-dec}
-use Rattle.dispatcher.proofs.Same.{number-same}
-use Rattle.lines.specs.Line.{IsLineKind, lineRefusals}
+use Rattle.dispatcher.proofs.Unsound.{sound-own}
+use Rattle.dispatcher.proofs.Same.{done-is}
+use Rattle.lines.specs.Line.{IsLineKind, textRefusals, lineRefusals}
 use Rattle.lines.specs.declared.Line.{Line}
-use Rattle.lines.proofs.Same.{stands-same}
+use Rattle.lines.proofs.Same.{writes-same}
 use Rattle.calls.specs.Call.{Call, create, delete, load, wake, block, Does}
 use Rattle.calls.proofs.Calling.{does-same}
 use Rattle.days.specs.declared.FileCall.{FileCall}
@@ -66,10 +68,10 @@ stepped-same p e = λ i. record { written = p i; dispatcher = e i }
 
 told-same : {d : Dispatcher} {line : Line} {made : Outcome} {before after after′ : List ℕ} {r q : Stepped}
     → Told d line made before after r → Told d line made before after′ q → (r ≡ q) × (after ≡ after′)
-told-same {after} {after′} {r} {q} x y = (stepped-same (same .0) (go (ℕ-discrete (numberOf (r .written .answer)) 0)), same .1)
+told-same {line = line} {made = made} {after = after} {after′ = after′} {r = r} {q = q} x y = (stepped-same (same .0) (go (ℕ-discrete (numberOf (r .written .answer)) 0)), same .1)
   where
     same : (r .written ≡ q .written) × (after ≡ after′)
-    same = stands-same (x .line-written) (y .line-written)
+    same = writes-same line (made .dispatcher) (x .line-written) (y .line-written)
 
     go : Dec (numberOf (r .written .answer) ≡ 0) → r .dispatcher ≡ q .dispatcher
     go (yes z) = x .next z ∙ sym (y .next (rw (← same .0) z))
@@ -83,7 +85,7 @@ steps-same {b} {k} {d} (inl x) (inl y) =
 steps-same (inl x) (inr y) = absurd (y .none (x .call) (x .at))
 steps-same (inr x) (inl y) = absurd (x .none (y .call) (y .at))
 steps-same {r} {q} (inr x) (inr y) =
-    let answer = number-same {a = r .written .answer} {b = q .written .answer} (x .answer ∙ sym (y .answer)) in
+    let answer = done-is {a = r .written .answer} (x .answer) ∙ sym (done-is {a = q .written .answer} (y .answer)) in
     (stepped-same (λ i. record { answer = answer i; length = (x .nothing ∙ sym (y .nothing)) i }) (x .kept ∙ sym (y .kept)), x .bytes ∙ sym (y .bytes))
 
 -- ---- the lines
@@ -135,19 +137,20 @@ kind-small (delete slot) = omega arith
 kind-small (load list) = omega arith
 
 -- a line that fits is written
-not-stopped : {b : List ℕ} {k n : ℕ} {d : Dispatcher} {room l : List ℕ} {o : Outcome} → LineAt b k d o l → length l ≤ length room → Stops b k d room n → ⊥
+not-stopped : {b : List ℕ} {k : ℕ} {d : Dispatcher} {room l : List ℕ} {o : Outcome} {a : Answer} → LineAt b k d o l → length l ≤ length room → Stops b k d room a → ⊥
 not-stopped {b} {k} {d} {room} {o} x fits stops = go (stops .steps)
   where
-    none-applies : (c : Call) (p : Outcome) → c ≡ x .call → p ≡ o → (m : ℕ) → Applies (lineRefusals (lineOf k c p) (p .dispatcher) room) m → ⊥
-    none-applies c p same made m (inl (_, unsound)) = unsound (rw made (x .sound))
-    none-applies c p same made m (inr (inl (_, bad))) = bad (kind-small c)
-    none-applies c p same made m (inr (inr (inl (_, long)))) = let short = rw (same, made, ← x .text) at long in omega arith
-    none-applies c p same made m (inr (inr (inr a))) = a
+    none-refuses : (c : Call) (p : Outcome) → c ≡ x .call → p ≡ o → (m : ℕ) → Applies (lineRefusals (lineOf k c p) (p .dispatcher) room) m → ⊥
+    none-refuses c p same made m h = elim (sound-own (p .dispatcher) (rw made (x .sound)) (textRefusals (lineOf k c p) (p .dispatcher) room) m h) [
+      | inl (_, bad) ↦ bad (kind-small c)
+      | inr (inl (_, long)) ↦ let short = rw (same, made, ← x .text) at long in omega arith
+      | inr (inr a) ↦ a
+    ]
 
     go : Steps b k d room (stops .after) (stops .step) → ⊥
     go (inl t) =
         let same = made-same b k d (t .call) (x .call) (t .at) (x .at) (t .does) (x .does) in
-        let done = by-dec (ℕ-discrete (numberOf (stops .step .written .answer)) 0) (λ n. none-applies (t .call) (t .outcome) (same .0) (same .1) _ (t .told .line-written .answer .listed n)) in
+        let done = by-dec (ℕ-discrete (numberOf (stops .step .written .answer)) 0) (λ n. none-refuses (t .call) (t .outcome) (same .0) (same .1) _ (t .told .line-written .answer .answer .listed n)) in
         let some = line-some (lineOf k (t .call) (t .outcome)) (take (t .outcome .dispatcher .cores) (t .outcome .dispatcher .seats)) in
         omega (arith, some, stops .nothing, t .told .line-written .length-told done)
     go (inr e) = e .none (x .call) (x .at)
@@ -166,9 +169,9 @@ replays-same {b} {k} {d} {before} {after} {after′} {r} {q} x y = go (decLt (x 
     equal : x .made ≡ y .made → (r ≡ q) × (after ≡ after′)
     equal many =
         let (kept, text) = prints-same b k d (x .made) (x .prints) (rw (← many) at (y .prints)) in
-        let stops : Stops b (k + x .made) (r .dispatcher) (drop (length (x .text)) before) (numberOf (q .answer)) = rw (many, kept, text) (y .stops) in
+        let stops : Stops b (k + x .made) (r .dispatcher) (drop (length (x .text)) before) (q .answer) = rw (many, kept, text) (y .stops) in
         let step = steps-same (x .stops .steps) (stops .steps) .0 in
-        let answer = number-same {a = r .answer} {b = q .answer} (sym (rw step at (x .stops .answer)) ∙ stops .answer) in
+        let answer : r .answer ≡ q .answer = sym (rw step at (x .stops .answer)) ∙ stops .answer in
         let next : r .next ≡ q .next = omega arith in
         let size : r .length ≡ q .length = cc in
         ((λ i. record { answer = answer i; next = next i; length = size i; dispatcher = kept i }), x .written ∙ rw text (sym (y .written)))

@@ -11,7 +11,8 @@ use Rattle.texts.specs.Joined.{newline, space, joined}
 use Rattle.dispatcher.specs.Answers.{numberOf}
 use Rattle.dispatcher.specs.declared.Dispatcher.{Dispatcher}
 use Rattle.dispatcher.specs.declared.Outcome.{Outcome}
-use Rattle.dispatcher.proofs.Stable.{by-dec, not-unsound}
+use Rattle.dispatcher.proofs.Stable.{by-dec}
+use Rattle.dispatcher.proofs.Unsound.{done-sound, done-own}
 use Rattle.lines.specs.Text.{fieldsOf, seatsText, lineText}
 use Rattle.lines.specs.Line.{textOf}
 use Rattle.lines.specs.declared.Line.{Line}
@@ -50,12 +51,12 @@ accepted {b} {k} {d} {before} {after} {r} (inl t) some = go (ℕ-discrete (numbe
             call = t .call;
             at = t .at;
             does = t .does;
-            sound = not-unsound (t .outcome .dispatcher) (λ u. none-applies (w .answer) z 1 (inl (refl, u)));
+            sound = done-sound (t .outcome .dispatcher) (w .answer .answer) z;
             text = refl;
           };
           bytes = w .written z;
           told = w .length-told z;
-          fits = by-dec (decLe (length line) (length before)) (λ n. none-applies (w .answer) z 15 (inr (inr (inl (refl, omega (arith, n))))));
+          fits = by-dec (decLe (length line) (length before)) (λ n. none-applies (done-own (t .outcome .dispatcher) _ (w .answer .answer) z) refl 15 (inr (inl (refl, omega (arith, n)))));
           next = t .told .next z;
         }
 accepted (inr e) some = absurd (some (e .nothing))

@@ -4,8 +4,8 @@ use mathlib.Core.Path.{_≡_}
 use mathlib.Core.List.{List, [], _∷_, _++_}
 use lib.ListN.{length, drop}
 use Rattle.dispatcher.specs.Sound.{Sound}
-use Rattle.dispatcher.specs.Answers.{numberOf}
 use Rattle.dispatcher.specs.Fresh.{Freshly}
+use Rattle.dispatcher.specs.declared.Answer.{Answer}
 use Rattle.dispatcher.specs.declared.Dispatcher.{Dispatcher}
 use Rattle.dispatcher.specs.declared.Outcome.{Outcome}
 use Rattle.files.specs.Layout.{coreCount, recordCount, eventCount}
@@ -31,13 +31,13 @@ abbrev pub Prints : List ℕ → ℕ → Dispatcher → ℕ → Dispatcher → L
 Prints b k d zero e t = (e ≡ d) × (t ≡ [])
 Prints b k d (suc n) e t = (o : Outcome) × (l : List ℕ) × (u : List ℕ) × LineAt b k d o l × (t ≡ l ++ u) × Prints b (k + 1) (o .dispatcher) n e u
 
--- the step of call k writes nothing and answers n
-pub record Stops (b : List ℕ) (k : ℕ) (d : Dispatcher) (room : List ℕ) (n : ℕ) : Type 0 where
+-- the step of call k writes nothing and answers a
+pub record Stops (b : List ℕ) (k : ℕ) (d : Dispatcher) (room : List ℕ) (a : Answer) : Type 0 where
   pub step : Stepped
   pub after : List ℕ
   pub steps : Steps b k d room after step
   pub nothing : step .written .length ≡ 0
-  pub answer : numberOf (step .written .answer) ≡ n
+  pub answer : step .written .answer ≡ a
 
 -- the lines stand at the buffer's start and no other byte changes; the answer is that of the first step which writes nothing
 pub record Replays (b : List ℕ) (k : ℕ) (d : Dispatcher) (before after : List ℕ) (r : Replayed) : Type 0 where
@@ -48,7 +48,7 @@ pub record Replays (b : List ℕ) (k : ℕ) (d : Dispatcher) (before after : Lis
   pub length-told : r .length ≡ length text
   pub fits : length text ≤ length before
   pub written : after ≡ text ++ drop (length text) before
-  pub stops : Stops b (k + made) (r .dispatcher) (drop (length text) before) (numberOf (r .answer))
+  pub stops : Stops b (k + made) (r .dispatcher) (drop (length text) before) (r .answer)
 
 -- the lines of a day: one for each record and event of a well-formed file, on a fresh dispatcher of so many cores as it says
 pub record DayText (b t : List ℕ) : Type 0 where

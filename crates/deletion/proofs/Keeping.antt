@@ -15,10 +15,12 @@ use Rattle.dispatcher.specs.declared.Task.{Task}
 use Rattle.dispatcher.specs.declared.Report.{Report}
 use Rattle.dispatcher.specs.declared.Dispatcher.{Dispatcher}
 use Rattle.dispatcher.specs.declared.Outcome.{Outcome}
-use Rattle.dispatcher.proofs.Promises.{slot-below}
+use Rattle.dispatcher.proofs.Unsound.{sound-own}
+use Rattle.dispatcher.proofs.Promises.{called-below}
 use Rattle.dispatcher.proofs.Ready.{ready-used}
 use Rattle.dispatcher.proofs.Stable.{ready-or-not}
 use Rattle.tasks.specs.Table.{withTask}
+use Rattle.tasks.specs.Named.{slotRefusals}
 use Rattle.tasks.proofs.Keeping.{with-task-keeps}
 use Rattle.readiness.specs.Block.{Blocks}
 use Rattle.readiness.proofs.Same.{blocks-same}
@@ -44,17 +46,19 @@ delete-keeps {d} {slot} {r} L S D = promised-keeps (λ x. Shaped x × Sound x) D
     go z (inl on) =
         let E = D .done z .ready on in
         let k = block-keeps L S (E .blocks) in
-        rw (E .emptied) (emptied-keeps (k .0) (k .1) (slot-below (D .answer) z) (ended-off E z L S))
-    go z (inr off) = rw (D .done z .not-ready off .written) (emptied-keeps L S (slot-below (D .answer) z) off)
+        rw (E .emptied) (emptied-keeps (k .0) (k .1) (called-below d (D .answer) z) (ended-off E z L S))
+    go z (inr off) = rw (D .done z .not-ready off .written) (emptied-keeps L S (called-below d (D .answer) z) off)
 
 -- ---- delete of a ready task is block and then delete
 
 -- nothing refuses a delete of a used slot
 none-refuses : {d : Dispatcher} {slot : ℕ} → Sound d → slot < slotLimit → Used (taskAt d slot) → (m : ℕ) → Applies (deleteRefusals d slot) m → ⊥
-none-refuses S below used m (inl (_, bad)) = bad S
-none-refuses S below used m (inr (inl (_, above))) = omega (arith, above, below)
-none-refuses S below used m (inr (inr (inl (_, empty)))) = used empty
-none-refuses S below used m (inr (inr (inr a))) = a
+none-refuses {d} {slot} S below used m a = go (sound-own d S (slotRefusals d slot) m a)
+  where
+    go : Applies (slotRefusals d slot) m → ⊥
+    go (inl (_, above)) = omega (arith, above, below)
+    go (inr (inl (_, empty))) = used empty
+    go (inr (inr b)) = b
 
 pub as-block-then-delete : {d : Dispatcher} {slot : ℕ} {b q r : Outcome} → Shaped d → Sound d → Ready d slot → Blocks d slot b → Deletes (b .dispatcher) slot q → Deletes d slot r
     → (r .dispatcher ≡ q .dispatcher) × (r .report ≡ b .report)

@@ -1,16 +1,17 @@
--- What delete does, as a function that computes, over what the test of soundness says; and that it meets the promise.
+-- What delete does, as a function that computes, over what the check of soundness says; and that it meets the promise.
 use Prim.Native.Nat.{ℕ}
 use mathlib.Core.Path.{_≡_}
 use mathlib.Core.Logic.{_⊎_, inl, inr}
-use mathlib.Core.Bool.{Bool, true, false, cond}
+use mathlib.Core.Bool.{true, false, cond}
 use lib.Dec.{eqb}
-use Rattle.laws.specs.Decides.{Decides}
 use Rattle.laws.proofs.Deciding.{cases}
 use Rattle.laws.proofs.Testing.{eqb-eq, eqb-ne}
 use Rattle.dispatcher.specs.Slots.{noTask, Shaped}
-use Rattle.dispatcher.specs.Sound.{Sound}
 use Rattle.dispatcher.specs.Answers.{numberOf}
+use Rattle.dispatcher.specs.Unsound.{unsoundRefusals}
 use Rattle.dispatcher.specs.Reports.{stillOf}
+use Rattle.dispatcher.specs.Promise.{Answered}
+use Rattle.dispatcher.specs.declared.Answer.{Answer}
 use Rattle.dispatcher.specs.declared.Answer.the-variants.{Done}
 use Rattle.dispatcher.specs.declared.Report.{Report}
 use Rattle.dispatcher.specs.declared.Dispatcher.{Dispatcher}
@@ -36,8 +37,9 @@ after-deletes {d} {slot} {b} B = go (cases (eqb (numberOf (b .report .answer)) 1
     go (inl y) = rw y (not-ready-deletes B (eqb-eq y) (settled-settles (stillOf Done)))
     go (inr n) = rw n (block-deletes B (eqb-ne n) (settled-settles (b .report)))
 
-abbrev pub deleteOf : Bool → Dispatcher → ℕ → Outcome
-deleteOf sound d slot = afterBlock (blockOf sound d slot) slot
+-- j is what the check of soundness says
+abbrev pub deleteOf : Answer → Dispatcher → ℕ → Outcome
+deleteOf j d slot = afterBlock (blockOf j d slot) slot
 
-pub delete-deletes : {b : Bool} (d : Dispatcher) (slot : ℕ) → Shaped d → Decides (Sound d) b → Deletes d slot (deleteOf b d slot)
-delete-deletes d slot L s = after-deletes (block-blocks d slot L s)
+pub delete-deletes : {d : Dispatcher} (j : Answer) (slot : ℕ) → Shaped d → Answered (unsoundRefusals d) d j → Deletes d slot (deleteOf j d slot)
+delete-deletes j slot L s = after-deletes (block-blocks j slot L s)

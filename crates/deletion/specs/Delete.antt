@@ -2,10 +2,11 @@
 -- as the block. A task that is not ready is deleted as before: its slot is emptied.
 use Prim.Native.Nat.{ℕ}
 use mathlib.Core.Path.{_≡_}
-use mathlib.Core.List.{List, [], _∷_}
+use mathlib.Core.List.{List, [], _∷_, _++_}
 use Rattle.laws.specs.Answering.{Refusal, _when_}
 use Rattle.dispatcher.specs.Slots.{noTask, Ready}
-use Rattle.dispatcher.specs.Refusals.{IsUnsound, IsAbove, IsEmpty}
+use Rattle.dispatcher.specs.Refusals.{IsAbove, IsEmpty}
+use Rattle.dispatcher.specs.Unsound.{unsoundRefusals}
 use Rattle.dispatcher.specs.Promise.{Promised}
 use Rattle.dispatcher.specs.declared.Dispatcher.{Dispatcher}
 use Rattle.dispatcher.specs.declared.Outcome.{Outcome}
@@ -25,10 +26,9 @@ pub record Deleted (d : Dispatcher) (slot : ℕ) (r : Outcome) : Type 0 where
 
 -- ready or not, a task is deleted: only the refusals of every call on the task in a slot are left
 abbrev pub deleteRefusals : Dispatcher → ℕ → List Refusal
-deleteRefusals d slot =
-    1 when IsUnsound d ∷
+deleteRefusals d slot = unsoundRefusals d ++ (
     3 when IsAbove slot ∷
-    5 when IsEmpty d slot ∷ []
+    5 when IsEmpty d slot ∷ [])
 
 abbrev pub Deletes : Dispatcher → ℕ → Outcome → Type 0
 Deletes d slot r = Promised (deleteRefusals d slot) d (Deleted d slot) r

@@ -28,13 +28,13 @@ freshOf false n = record { report = stillOf CoreCount; dispatcher = emptyOf 1 }
 pub freshly : {b : Bool} {n : ℕ} → Decides (LegalCount n) b → Freshly n (freshOf b n)
 unfolding firstOf
 freshly {b = true} {n} l = record {
-  answer = judged 0 (freshRefusals n) (test false CoreCount ∷ []) (decides-not l, refl, omega arith, tt);
+  answer = judged (freshRefusals n) (test false CoreCount ∷ []) (decides-not l, refl, omega arith, tt);
   still = refl;
   done = λ _. refl;
   refused = λ z. absurd (z refl);
 }
 freshly {b = false} {n} l = record {
-  answer = judged 0 (freshRefusals n) (test true CoreCount ∷ []) (decides-not l, refl, omega arith, tt);
+  answer = judged (freshRefusals n) (test true CoreCount ∷ []) (decides-not l, refl, omega arith, tt);
   still = refl;
   done = λ z. let y : _≡_ {A = ℕ} 2 0 = z in absurd (omega arith);
   refused = λ _. refl;

@@ -1,8 +1,9 @@
 pub mod Judging
 pub mod Testing
+pub mod Stable
+pub mod Unsound
 pub mod Promises
 pub mod Same
 pub mod Freshness
 pub mod Reading
-pub mod Stable
 pub mod Ready

@@ -1,4 +1,4 @@
--- A dispatcher that is not unsound is sound: each part of soundness is decided by a test.
+-- What is not false holds: each part of soundness is decided by a test.
 use Prim.Native.Nat.{ℕ}
 use mathlib.Core.Path.{_≡_}
 use mathlib.Core.Logic.{_⊎_, inl, inr}
@@ -8,8 +8,7 @@ use Rattle.laws.proofs.Deciding.{cases, clash}
 use Rattle.masks.specs.Masks.{has}
 use Rattle.dispatcher.specs.Limits.{coreLimit, slotLimit, none, greatestPriority}
 use Rattle.dispatcher.specs.Slots.{taskAt, orderAt, seatAt, Ready}
-use Rattle.dispatcher.specs.Sound.{Sound}
-use Rattle.dispatcher.specs.Refusals.{IsUnsound}
+use Rattle.dispatcher.specs.Sound.{CountLegal, SlotsLegal, OrderKept, MissingIdle, SeatsKept}
 use Rattle.dispatcher.specs.declared.Dispatcher.{Dispatcher}
 use Rattle.dispatcher.proofs.Testing.{readyTest, ready-decides}
 
@@ -39,23 +38,32 @@ not-unready d s h = go (ready-or-not d s)
     go (inl r) = r
     go (inr n) = absurd (h n)
 
-pub not-unsound : (d : Dispatcher) → (IsUnsound d → ⊥) → Sound d
-not-unsound d h = record {
-  count = (by-dec (decLe 1 (d .cores)) (λ n. h (λ S. n (S .count .0))), by-dec (decLe (d .cores) coreLimit) (λ n. h (λ S. n (S .count .1))));
-  slots = λ s l u. record {
-    priority = (by-dec (decLe 1 (taskAt d s .priority)) (λ n. h (λ S. n (S .slots s l u .priority .0))), by-dec (decLe (taskAt d s .priority) greatestPriority) (λ n. h (λ S. n (S .slots s l u .priority .1))));
-    mask = record { not-empty = λ e. h (λ S. S .slots s l u .mask .not-empty e); none-missing = λ k b. by-dec (decLt k (d .cores)) (λ n. h (λ S. n (S .slots s l u .mask .none-missing k b))) };
-  };
-  order = λ k l o. record {
-    slot = by-dec (decLt (orderAt d k) slotLimit) (λ n. h (λ S. n (S .order k l o .slot)));
-    used = λ e. h (λ S. S .order k l o .used e);
-    not-twice = λ j m e. h (λ S. S .order k l o .not-twice j m e);
-    no-gap = λ j m e. h (λ S. S .order k l o .no-gap j m e);
-  };
-  missing = λ c l m. by-dec (ℕ-discrete (seatAt d c) none) (λ n. h (λ S. n (S .missing c l m)));
-  seats = λ c l o. record {
-    ready = not-unready d (seatAt d c) (λ n. h (λ S. n (S .seats c l o .ready)));
-    once = λ b m e. h (λ S. S .seats c l o .once b m e);
-    allowed = by-bool (has (taskAt d (seatAt d c) .mask) c) (λ n. h (λ S. n (S .seats c l o .allowed)));
-  };
-}
+-- ---- a condition that is not broken holds
+
+module _ (d : Dispatcher) where
+  pub count-stable : ((CountLegal d → ⊥) → ⊥) → CountLegal d
+  count-stable h = (by-dec (decLe 1 (d .cores)) (λ n. h (λ S. n (S .0))), by-dec (decLe (d .cores) coreLimit) (λ n. h (λ S. n (S .1))))
+
+  pub slots-stable : ((SlotsLegal d → ⊥) → ⊥) → SlotsLegal d
+  slots-stable h = λ s l u. record {
+    priority = (by-dec (decLe 1 (taskAt d s .priority)) (λ n. h (λ S. n (S s l u .priority .0))), by-dec (decLe (taskAt d s .priority) greatestPriority) (λ n. h (λ S. n (S s l u .priority .1))));
+    mask = record { not-empty = λ e. h (λ S. S s l u .mask .not-empty e); none-missing = λ k b. by-dec (decLt k (d .cores)) (λ n. h (λ S. n (S s l u .mask .none-missing k b))) };
+  }
+
+  pub order-stable : ((OrderKept d → ⊥) → ⊥) → OrderKept d
+  order-stable h = λ k l o. record {
+    slot = by-dec (decLt (orderAt d k) slotLimit) (λ n. h (λ S. n (S k l o .slot)));
+    used = λ e. h (λ S. S k l o .used e);
+    not-twice = λ j m e. h (λ S. S k l o .not-twice j m e);
+    no-gap = λ j m e. h (λ S. S k l o .no-gap j m e);
+  }
+
+  pub missing-stable : ((MissingIdle d → ⊥) → ⊥) → MissingIdle d
+  missing-stable h = λ c l m. by-dec (ℕ-discrete (seatAt d c) none) (λ n. h (λ S. n (S c l m)))
+
+  pub seats-stable : ((SeatsKept d → ⊥) → ⊥) → SeatsKept d
+  seats-stable h = λ c l o. record {
+    ready = not-unready d (seatAt d c) (λ n. h (λ S. n (S c l o .ready)));
+    once = λ b m e. h (λ S. S c l o .once b m e);
+    allowed = by-bool (has (taskAt d (seatAt d c) .mask) c) (λ n. h (λ S. n (S c l o .allowed)));
+  }

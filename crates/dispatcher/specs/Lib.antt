@@ -3,6 +3,7 @@ pub mod Slots
 pub mod Sound
 pub mod Answers
 pub mod Refusals
+pub mod Unsound
 pub mod Reports
 pub mod Promise
 pub mod Fresh

@@ -1,15 +1,10 @@
--- Document 01, "Refusal numbers": for each number the cause for which it is given.
+-- Document 01, "Refusal numbers": for each number the cause for which it is given. Those of an unsound dispatcher are in Unsound.
 use Prim.Native.Nat.{ℕ, _≤_}
 use mathlib.Core.Path.{_≡_}
 use Rattle.masks.specs.Masks.{NamesMissing}
 use Rattle.dispatcher.specs.Limits.{slotLimit, LegalCount}
 use Rattle.dispatcher.specs.Slots.{taskAt, Empty, Used, Ready}
-use Rattle.dispatcher.specs.Sound.{Sound}
 use Rattle.dispatcher.specs.declared.Dispatcher.{Dispatcher}
-
--- 1: dispatcher not sound
-abbrev pub IsUnsound : Dispatcher → Type 0
-IsUnsound d = Sound d → ⊥
 
 -- 2: core count not 1 to 32
 abbrev pub IsBadCount : ℕ → Type 0

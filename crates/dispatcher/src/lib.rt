@@ -3,7 +3,7 @@ ghost use mathlib.Core.Path.{_≡_};
 ghost use Rattle.laws.specs.Decides.{Decides};
 ghost use Rattle.dispatcher.specs.Limits.{LegalCount};
 ghost use Rattle.dispatcher.specs.Slots.{Used, Ready};
-ghost use Rattle.dispatcher.specs.Answers.{numberOf};
+ghost use Rattle.dispatcher.specs.Answers.{numberOf, placeOf};
 ghost use Rattle.dispatcher.specs.Reports.{stillOf, plainOf};
 ghost use Rattle.dispatcher.specs.Fresh.{emptyOf, Freshly};
 
@@ -51,10 +51,16 @@ pub struct TaskRecord {
     pub mask: u32,
 }
 
-// What a call answers. `number` gives document 01's number; 11, which delete of a ready task once gave, is no answer's.
+// What a call answers. Those whose names begin with Unsound say why a dispatcher is not sound, and carry the count found or the lowest
+// slot, place or core. `number` gives the papers' number; 1, which once stood for all five, and 11, which delete of a ready task once gave,
+// are no answer's.
 pub enum Answer {
     Done,
-    NotSound,
+    UnsoundCount(u16),
+    UnsoundSlot(u16),
+    UnsoundPlace(u16),
+    UnsoundMissingCore(u16),
+    UnsoundSeat(u16),
     CoreCount,
     SlotAbove,
     SlotInUse,
@@ -77,7 +83,11 @@ impl Answer {
     {
         match self {
             Answer::Done => 0,
-            Answer::NotSound => 1,
+            Answer::UnsoundCount(_) => 21,
+            Answer::UnsoundSlot(_) => 22,
+            Answer::UnsoundPlace(_) => 23,
+            Answer::UnsoundMissingCore(_) => 24,
+            Answer::UnsoundSeat(_) => 25,
             Answer::CoreCount => 2,
             Answer::SlotAbove => 3,
             Answer::SlotInUse => 4,
@@ -94,6 +104,34 @@ impl Answer {
             Answer::EventCount => 16,
         }
     }
+
+    // Where a dispatcher is not sound; 0 where the answer is another.
+    pub fn place(self) -> u16
+        ensures { λ r. ⌜ r ≡ placeOf self ⌝ }
+    {
+        match self {
+            Answer::UnsoundCount(count) => count,
+            Answer::UnsoundSlot(slot) => slot,
+            Answer::UnsoundPlace(place) => place,
+            Answer::UnsoundMissingCore(core) => core,
+            Answer::UnsoundSeat(core) => core,
+            Answer::Done => 0,
+            Answer::CoreCount => 0,
+            Answer::SlotAbove => 0,
+            Answer::SlotInUse => 0,
+            Answer::SlotEmpty => 0,
+            Answer::PriorityZero => 0,
+            Answer::MaskEmpty => 0,
+            Answer::MissingCore => 0,
+            Answer::AlreadyReady => 0,
+            Answer::NotReady => 0,
+            Answer::FileShort => 0,
+            Answer::BytesAfter => 0,
+            Answer::BadKind => 0,
+            Answer::LineLong => 0,
+            Answer::EventCount => 0,
+        }
+    }
 }
 
 pub struct Report {
@@ -104,13 +142,14 @@ pub struct Report {
     pub stopped: u16,
 }
 
-// A report for C: document 01's number in place of the answer.
+// A report for C: the answer's number and place in place of the answer.
 #[repr(C)]
 pub struct PlainReport {
     pub number: u8,
     pub moves: u8,
     pub started: u16,
     pub stopped: u16,
+    pub place: u16,
 }
 
 impl Report {
@@ -136,6 +175,7 @@ impl Report {
             moves: self.moves,
             started: self.started,
             stopped: self.stopped,
+            place: answer.place(),
         }
     }
 }

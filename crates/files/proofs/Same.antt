@@ -8,7 +8,8 @@ use native.Mathlib.Omega.{arith}
 use lib.Dec.{eqb, ltb, leb}
 use lib.ListN.{length}
 use borrow.Author.Tests.{eq-eqb, ne-eqb, lt-ltb, le-ltb, le-leb, lt-leb}
-use Rattle.laws.specs.Answering.{Applies}
+use Rattle.laws.specs.Answering.{Applies, checkedFirst}
+use Rattle.laws.proofs.Answering.{from-applies}
 use Rattle.dispatcher.specs.Answers.{numberOf}
 use Rattle.dispatcher.proofs.Same.{number-same}
 use Rattle.files.specs.Layout.{countPlace, endPlace}
@@ -62,7 +63,8 @@ reads-same b (Layout cores records events) (Refused answer offset) x y = absurd 
 reads-same b (Refused answer offset) (Layout cores records events) x y = absurd (no-fault (y .0) (numberOf answer) offset (x .there))
 reads-same b (Refused answer offset) (Refused answer′ offset′) x y =
     let same = fault-same x y in
-    cc (number-same {a = answer} {b = answer′} (same .0), same .1)
+    let later = from-applies (length checkedFirst) (faultsAt b offset) (numberOf answer) (omega arith, (omega arith, (omega arith, (omega arith, (omega arith, tt))))) (x .there) in
+    cc (number-same {a = answer} {b = answer′} later (same .0), same .1)
 
 pub record-same : (b : List ℕ) (i : ℕ) (r q : FileRecord) → ReadsRecord b i r → ReadsRecord b i q → r ≡ q
 record-same b i (Record slot priority mask) (Record slot′ priority′ mask′) x y = cc

@@ -55,6 +55,13 @@ bytes-back (suc k) b o s l =
     next : o + 1 + k ≡ o + suc k
     next = omega arith
 
+-- four bytes say what two numbers of two bytes say
+pub four-by-two : (b : List ℕ) (o p : ℕ) → p ≡ o + 2 → lowestFirst 4 b o ≡ lowestFirst 2 b o + 65536 * lowestFirst 2 b p
+four-by-two b o p e =
+    let third : byte b (o + 1 + 1) ≡ byte b p = ap (byte b) (omega arith) in
+    let fourth : byte b (o + 1 + 1 + 1) ≡ byte b (p + 1) = ap (byte b) (omega arith) in
+    omega arith
+
 lowest-small : (k : ℕ) (b : List ℕ) (o : ℕ) → Bytes b → lowestFirst k b o < 256 ^ k
 lowest-small zero b o s = omega arith
 lowest-small (suc k) b o s = rw (pow-suc 256 k) (omega (arith, s o, lowest-small k b (o + 1) s))

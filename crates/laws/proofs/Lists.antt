@@ -3,6 +3,7 @@ use Prim.Native.Nat.{ℕ, zero, suc, _≤_, _<_}
 use mathlib.Core.Path.{_≡_, refl}
 use mathlib.Core.Logic.{_⊎_, inl, inr}
 use mathlib.Core.List.{List, [], _∷_, _++_}
+use native.Mathlib.Decide.{ℕ-discrete}
 use native.Mathlib.Nat.{not-suc-le-zero, le-of-suc-le-suc}
 use lib.ListN.{length, getD}
 use Rattle.laws.specs.Lists.{In, All, Any}
@@ -24,6 +25,16 @@ pub all-at : {A : Type 0} (P : A → Type 0) (l : List A) (a : A) → All P l �
 all-at P [] a h i b = absurd (not-suc-le-zero b)
 all-at P (x ∷ l) a h zero b = h .0
 all-at P (x ∷ l) a h (suc i) b = all-at P l a (h .1) i (le-of-suc-le-suc b)
+
+-- a number stands in a list, or it does not
+pub in-or-not : (c : ℕ) (s : List ℕ) → In c s ⊎ (In c s → ⊥)
+in-or-not c [] = inr (λ i. i)
+in-or-not c (d ∷ s) = go (ℕ-discrete c d) (in-or-not c s)
+  where
+    go : Dec (c ≡ d) → In c s ⊎ (In c s → ⊥) → In c (d ∷ s) ⊎ (In c (d ∷ s) → ⊥)
+    go (yes e) _ = inl (inl e)
+    go (no n) (inl i) = inl (inr i)
+    go (no n) (inr o) = inr (λ i. elim i [ inl e ↦ n e | inr j ↦ o j ])
 
 -- who stands in two lists, one after the other
 pub in-append : (c : ℕ) (s t : List ℕ) → In c (s ++ t) → In c s ⊎ In c t

@@ -112,10 +112,10 @@ textsOf l s = fieldsOf l ++ (seatsText s ∷ [])
 texts-free : (l : Line) (s : List ℕ) → EachWithout space (textsOf l s)
 texts-free l s = (number-free _, (letter-free (l .kind), (number-free _, (number-free _, (number-free _, (slot-free _, (slot-free _, (seats-free s, tt))))))))
 
--- the whole line, and as many seats
-pub line-same : {l m : Line} {s u : List ℕ} → IsLineKind (l .kind) → IsLineKind (m .kind) → lineText l s ≡ lineText m u → (l ≡ m) × (s ≡ u)
+-- the whole line but for the place, which is not printed, and as many seats
+pub line-same : {l m : Line} {s u : List ℕ} → IsLineKind (l .kind) → IsLineKind (m .kind) → l .report .place ≡ m .report .place → lineText l s ≡ lineText m u → (l ≡ m) × (s ≡ u)
 unfolding lineText
-line-same {l} {m} {s} {u} a b e =
+line-same {l} {m} {s} {u} a b place e =
     let texts : textsOf l s ≡ textsOf m u = joined-same space _ _ _ _ (texts-free l s) (texts-free m u) (append-cancel-right _ _ _ e) in
     let number = decimal-same (l .number) (m .number) (cc) in
     let kind = letter-same (l .kind) (m .kind) a b (cc) in
@@ -125,7 +125,7 @@ line-same {l} {m} {s} {u} a b e =
     let started = slot-same (l .report .started) (m .report .started) (cc) in
     let stopped = slot-same (l .report .stopped) (m .report .stopped) (cc) in
     let seats = seats-same s u (cc) in
-    let report : l .report ≡ m .report = λ i. record { number = answer i; moves = moves i; started = started i; stopped = stopped i } in
+    let report : l .report ≡ m .report = λ i. record { number = answer i; moves = moves i; started = started i; stopped = stopped i; place = place i } in
     (λ i. record { number = number i; kind = kind i; slot = slot i; report = report i }, seats)
 
 -- ---- a refused file

@@ -1,14 +1,13 @@
 // Writes report lines as text into lent bytes.
 ghost use Prim.Native.Nat.{_+_, _≤_};
 ghost use mathlib.Core.Path.{_≡_};
-ghost use mathlib.Core.List.{[], _∷_};
+ghost use mathlib.Core.List.{_∷_};
 ghost use lib.ListN.{length, take};
-ghost use Rattle.laws.specs.Answering.{_when_};
 ghost use Rattle.texts.specs.Put.{Puts};
 ghost use Rattle.texts.specs.Joined.{space, eachAfter, joined};
 ghost use Rattle.dispatcher.specs.Limits.{LegalCount};
 ghost use Rattle.lines.specs.Text.{letterOf, slotText, eventFields, reportFields, seatsText, lineText};
-ghost use Rattle.lines.specs.Line.{IsLineKind, IsLong, Stands, Writes, WritesFault};
+ghost use Rattle.lines.specs.Line.{IsLineKind, SaysLong, Stands, Writes, WritesFault};
 use dispatcher::Answer;
 use dispatcher::Dispatcher;
 use dispatcher::PlainReport;
@@ -113,7 +112,7 @@ fn put_line(text: &mut [u8], line: Line, seats: [u16; Dispatcher::CORES], cores:
 // Hands a text over, and answers 15 where there was no room.
 fn hand_over(text: &[u8], size: usize, buffer: &mut [u8]) -> Written
     requires { ⌜ size ≤ length (now text) ⌝ }
-    ensures { λ r. ⌜ Stands (15 when IsLong (take size (now (text .entry))) (now (buffer .entry)) ∷ []) (take size (now (text .entry))) (now (buffer .entry)) (now (buffer .exit)) r ⌝ }
+    ensures { λ r. ⌜ Stands (SaysLong (take size (now (text .entry))) (now (buffer .entry))) (take size (now (text .entry))) (now (buffer .entry)) (now (buffer .exit)) r ⌝ }
 {
     if !texts::hand_over(text, size, buffer) {
         return Written {
@@ -131,11 +130,9 @@ fn hand_over(text: &[u8], size: usize, buffer: &mut [u8]) -> Written
 pub fn write(line: Line, d: Dispatcher, buffer: &mut [u8]) -> Written
     ensures { λ r. ⌜ Writes line d (now (buffer .entry)) (now (buffer .exit)) r ⌝ }
 {
-    if !soundness::sound(d) {
-        return Written {
-            answer: Answer::NotSound,
-            length: 0,
-        };
+    let answer = soundness::check(d);
+    if answer.number() != 0 {
+        return Written { answer, length: 0 };
     }
     if 3 < line.kind {
         return Written {

@@ -2,14 +2,15 @@
 use Prim.Native.Nat.{ℕ}
 use mathlib.Core.Path.{_≡_, sym, ap, _∙_}
 use mathlib.Core.List.{List}
-use Rattle.laws.specs.Answering.{Refusal}
+use Rattle.dispatcher.specs.Unsound.{unsoundRefusals}
 use Rattle.dispatcher.specs.Reports.{plainOf}
+use Rattle.dispatcher.specs.Promise.{Answered}
 use Rattle.dispatcher.specs.Fresh.{Freshly}
 use Rattle.dispatcher.specs.declared.Dispatcher.{Dispatcher}
 use Rattle.dispatcher.specs.declared.TaskRecord.{TaskRecord}
 use Rattle.dispatcher.specs.declared.Outcome.{Outcome}
 use Rattle.dispatcher.specs.declared.PlainReport.{PlainReport}
-use Rattle.dispatcher.proofs.Same.{freshly-same}
+use Rattle.dispatcher.proofs.Same.{answered-same, freshly-same}
 use Rattle.tasks.specs.Create.{Creates}
 use Rattle.tasks.proofs.Same.{creates-same}
 use Rattle.readiness.specs.Wake.{Wakes}
@@ -22,9 +23,9 @@ use Rattle.boot.specs.declared.Loaded.{Loaded}
 use Rattle.boot.proofs.Same.{loads-same}
 use Rattle.files.specs.Reading.{Reads, ReadsRecord, ReadsEvent}
 use Rattle.files.proofs.Same.{reads-same, record-same, event-same}
-use Rattle.lines.specs.Line.{Stands, Writes, WritesFault}
+use Rattle.lines.specs.Line.{Writes, WritesFault}
 use Rattle.lines.specs.declared.Line.{Line}
-use Rattle.lines.proofs.Same.{stands-same}
+use Rattle.lines.proofs.Same.{writes-same, writes-fault-same}
 use Rattle.cpusets.specs.Reading.{plainOf as plainSet}
 use Rattle.cpusets.specs.declared.PlainReading.{PlainReading}
 use Rattle.cpulists.specs.Promise.{ReadsList, WritesList}
@@ -32,8 +33,9 @@ use Rattle.cpulists.proofs.Same.{list-reads-same, list-writes-same}
 use Rattle.cpumasks.specs.Promise.{ReadsMask, WritesMask}
 use Rattle.cpumasks.proofs.Same.{mask-reads-same, mask-writes-same}
 use Rattle.makxirund.specs.InPlace.{InPlace, plainLoad, LoadsInPlace}
-use Rattle.makxirund.specs.Plain.{plainReading, plainRecord, plainEvent, plainWritten, InPlain}
+use Rattle.makxirund.specs.Plain.{plainAnswer, plainReading, plainRecord, plainEvent, plainWritten, InPlain}
 use Rattle.makxirund.specs.CoreSets.{plainText}
+use Rattle.makxirund.specs.declared.PlainAnswer.{PlainAnswer}
 use Rattle.makxirund.specs.declared.PlainLoadReport.{PlainLoadReport}
 use Rattle.makxirund.specs.declared.PlainLayout.{PlainLayout}
 use Rattle.makxirund.specs.declared.PlainRecord.{PlainRecord}
@@ -68,10 +70,13 @@ load-same x y =
     let same = loads-same (x .by-value) (y .by-value) in
     (x .stored ∙ ap (λ (l : Loaded). l .dispatcher) same ∙ sym (y .stored), x .told ∙ ap (λ (l : Loaded). plainLoad (l .report)) same ∙ sym (y .told))
 
--- ---- the file reader and the line writer
+-- ---- the soundness check, the file reader and the line writer
 
 pub in-plain-same : {A B : Type 0} {P : A → Type 0} {plain : A → B} {r r′ : B} → ((a b : A) → P a → P b → a ≡ b) → InPlain P plain r → InPlain P plain r′ → r ≡ r′
 in-plain-same {plain = plain} one x y = x .told ∙ ap plain (one (x .said) (y .said) (x .promised) (y .promised)) ∙ sym (y .told)
+
+pub sound-same : {d : Dispatcher} {r r′ : PlainAnswer} → InPlain (Answered (unsoundRefusals d) d) plainAnswer r → InPlain (Answered (unsoundRefusals d) d) plainAnswer r′ → r ≡ r′
+sound-same = in-plain-same (λ a b. answered-same)
 
 pub read-same : {b : List ℕ} {r r′ : PlainLayout} → InPlain (Reads b) plainReading r → InPlain (Reads b) plainReading r′ → r ≡ r′
 read-same {b} = in-plain-same (reads-same b)
@@ -89,18 +94,14 @@ in-plain-bytes-same {plain = plain} one x y =
     let same = one (x .said) (y .said) (x .promised) (y .promised) in
     (x .told ∙ ap plain (same .0) ∙ sym (y .told), same .1)
 
--- a line or the line of a fault
-pub written-same : {rs : List Refusal} {text before after after′ : List ℕ} {r r′ : PlainWritten}
-    → InPlain (Stands rs text before after) plainWritten r → InPlain (Stands rs text before after′) plainWritten r′ → (r ≡ r′) × (after ≡ after′)
-written-same = in-plain-bytes-same (λ a b. stands-same)
-
+-- a line, and the line of a fault
 pub line-same : (l : Line) (d : Dispatcher) {before after after′ : List ℕ} {r r′ : PlainWritten}
     → InPlain (Writes l d before after) plainWritten r → InPlain (Writes l d before after′) plainWritten r′ → (r ≡ r′) × (after ≡ after′)
-line-same l d = written-same
+line-same l d = in-plain-bytes-same (λ a b. writes-same l d)
 
 pub fault-same : (n offset : ℕ) {before after after′ : List ℕ} {r r′ : PlainWritten}
     → InPlain (WritesFault n offset before after) plainWritten r → InPlain (WritesFault n offset before after′) plainWritten r′ → (r ≡ r′) × (after ≡ after′)
-fault-same n offset = written-same
+fault-same n offset = in-plain-bytes-same (λ a b. writes-fault-same n offset)
 
 -- ---- core sets
 

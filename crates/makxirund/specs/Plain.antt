@@ -1,7 +1,8 @@
--- What the file reader and the line writer say, in plain numbers.
+-- What the soundness check, the file reader and the line writer say, in plain numbers.
 use mathlib.Core.Path.{_≡_}
 use mathlib.Core.Bool.{true, false}
-use Rattle.dispatcher.specs.Answers.{numberOf}
+use Rattle.dispatcher.specs.Answers.{numberOf, placeOf}
+use Rattle.dispatcher.specs.declared.Answer.{Answer}
 use Rattle.files.specs.declared.Reading.{Reading}
 use Rattle.files.specs.declared.Reading.the-variants.{Layout, Refused}
 use Rattle.files.specs.declared.FileRecord.{FileRecord}
@@ -9,10 +10,14 @@ use Rattle.files.specs.declared.FileRecord.the-variants.{Record, NoRecord}
 use Rattle.files.specs.declared.FileEvent.{FileEvent}
 use Rattle.files.specs.declared.FileEvent.the-variants.{Event, NoEvent}
 use Rattle.lines.specs.declared.Written.{Written}
+use Rattle.makxirund.specs.declared.PlainAnswer.{PlainAnswer}
 use Rattle.makxirund.specs.declared.PlainLayout.{PlainLayout}
 use Rattle.makxirund.specs.declared.PlainRecord.{PlainRecord}
 use Rattle.makxirund.specs.declared.PlainEvent.{PlainEvent}
 use Rattle.makxirund.specs.declared.PlainWritten.{PlainWritten}
+
+abbrev pub plainAnswer : Answer → PlainAnswer
+plainAnswer a = record { number = numberOf a; place = placeOf a }
 
 -- a refused file has no layout to tell, and a layout no offset
 abbrev pub plainReading : Reading → PlainLayout
@@ -28,7 +33,7 @@ plainEvent (Event kind slot) = record { found = true; kind = kind; slot = slot }
 plainEvent NoEvent = record { found = false; kind = 0; slot = 0 }
 
 abbrev pub plainWritten : Written → PlainWritten
-plainWritten w = record { number = numberOf (w .answer); length = w .length }
+plainWritten w = record { number = numberOf (w .answer); place = placeOf (w .answer); length = w .length }
 
 -- r is in plain numbers what a promise allows
 pub record InPlain {A B : Type 0} (Promise : A → Type 0) (plain : A → B) (r : B) : Type 0 where

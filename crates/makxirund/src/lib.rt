@@ -1,9 +1,8 @@
 // The library for C and Rust: every call in place on the dispatcher that the kernel holds, the soundness check, the file reader, the line writer, and the
 // readers and writers of core sets. Each does what the function by value does, and tells it in plain numbers.
-ghost use mathlib.Core.List.{[], _∷_};
 ghost use mathlib.Core.Path.{_≡_};
-ghost use Rattle.laws.specs.Answering.{_when_, Answers};
-ghost use Rattle.dispatcher.specs.Refusals.{IsUnsound};
+ghost use Rattle.dispatcher.specs.Unsound.{unsoundRefusals};
+ghost use Rattle.dispatcher.specs.Promise.{Answered};
 ghost use Rattle.dispatcher.specs.Fresh.{Freshly};
 ghost use Rattle.tasks.specs.Create.{Creates};
 ghost use Rattle.readiness.specs.Wake.{Wakes};
@@ -17,11 +16,10 @@ ghost use Rattle.cpusets.specs.Reading.{plainOf};
 ghost use Rattle.cpulists.specs.Promise.{ReadsList, WritesList};
 ghost use Rattle.cpumasks.specs.Promise.{ReadsMask, WritesMask};
 ghost use Rattle.makxirund.specs.InPlace.{plainLoad, InPlace, LoadsInPlace};
-ghost use Rattle.makxirund.specs.Plain.{plainReading, plainRecord, plainEvent, plainWritten, InPlain};
+ghost use Rattle.makxirund.specs.Plain.{plainAnswer, plainReading, plainRecord, plainEvent, plainWritten, InPlain};
 ghost use Rattle.makxirund.specs.CoreSets.{plainText};
 use boot::LoadReport;
 use cpusets::PlainReading;
-use dispatcher::Answer;
 use dispatcher::Dispatcher;
 use dispatcher::PlainReport;
 use dispatcher::TaskRecord;
@@ -30,6 +28,13 @@ use files::FileRecord;
 use files::Reading;
 use lines::Line;
 use lines::Written;
+
+// What the soundness check says: number 0 and place 0, or which condition is broken and where.
+#[repr(C)]
+pub struct PlainAnswer {
+    pub number: u8,
+    pub place: u16,
+}
 
 #[repr(C)]
 pub struct PlainLoadReport {
@@ -65,6 +70,7 @@ pub struct PlainEvent {
 #[repr(C)]
 pub struct PlainWritten {
     pub number: u8,
+    pub place: u16,
     pub length: usize,
 }
 
@@ -146,21 +152,21 @@ pub extern "C" fn makxirund_load(d: &mut Dispatcher, list: &[TaskRecord]) -> Pla
     plain_load(report)
 }
 
-fn soundness_number(d: Dispatcher) -> u8
-    ensures { λ r. ⌜ Answers (1 when IsUnsound d ∷ []) r ⌝ }
+fn plain_check(d: Dispatcher) -> PlainAnswer
+    ensures { λ r. ⌜ InPlain (Answered (unsoundRefusals d) d) plainAnswer r ⌝ }
 {
-    if !soundness::sound(d) {
-        return Answer::NotSound.number();
-    }
-    Answer::Done.number()
+    let answer = soundness::check(d);
+    let number = answer.number();
+    let place = answer.place();
+    PlainAnswer { number, place }
 }
 
-// 0 where the dispatcher is sound, else 1.
+// What is unsound, and where; 0 and 0 where the dispatcher is sound.
 #[no_mangle]
-pub extern "C" fn makxirund_sound(d: &Dispatcher) -> u8
-    ensures { λ r. ⌜ Answers (1 when IsUnsound (now (d .entry)) ∷ []) r ⌝ }
+pub extern "C" fn makxirund_sound(d: &Dispatcher) -> PlainAnswer
+    ensures { λ r. ⌜ InPlain (Answered (unsoundRefusals (now (d .entry))) (now (d .entry))) plainAnswer r ⌝ }
 {
-    soundness_number(*d)
+    plain_check(*d)
 }
 
 // The layout of a well-formed file, or its first fault.
@@ -240,6 +246,7 @@ fn plain_written(w: Written) -> PlainWritten
     let answer = w.answer;
     PlainWritten {
         number: answer.number(),
+        place: answer.place(),
         length: w.length,
     }
 }
@@ -290,6 +297,7 @@ fn plain_text(w: cpusets::Written) -> PlainWritten
     let answer = w.answer;
     PlainWritten {
         number: answer.number(),
+        place: 0,
         length: w.length,
     }
 }

@@ -22,7 +22,8 @@ use Rattle.dispatcher.specs.Promise.{Promised}
 use Rattle.dispatcher.specs.declared.Report.{Report}
 use Rattle.dispatcher.specs.declared.Dispatcher.{Dispatcher}
 use Rattle.dispatcher.specs.declared.Outcome.{Outcome}
-use Rattle.dispatcher.proofs.Promises.{slot-below}
+use Rattle.dispatcher.proofs.Unsound.{done-own}
+use Rattle.dispatcher.proofs.Promises.{called-below}
 use Rattle.order.specs.ComesBefore.{ComesBefore, priorityOf}
 use Rattle.order.specs.Changes.{joinedOf, leftOf}
 use Rattle.order.proofs.Joining.{joined-shaped, joined-new, joined-old, joined-only, joined-before, joined-sound, joined-last}
@@ -98,19 +99,19 @@ module _ {d : Dispatcher} {slot : ℕ} (L : Shaped d) (S : Sound d) (below : slo
 module _ {d : Dispatcher} {slot : ℕ} {r : Outcome} (L : Shaped d) (S : Sound d) (W : Wakes d slot r) where
   module _ (z : numberOf (r .report .answer) ≡ 0) where
     wake-off : Ready d slot → ⊥
-    wake-off q = none-applies (W .answer) z 9 (inr (inr (inr (inl (refl, q)))))
+    wake-off q = none-applies (done-own d _ (W .answer) z) refl 9 (inr (inr (inl (refl, q))))
 
     wake-used : Used (taskAt d slot)
-    wake-used e = none-applies (W .answer) z 5 (inr (inr (inl (refl, e))))
+    wake-used e = none-applies (done-own d _ (W .answer) z) refl 5 (inr (inl (refl, e)))
 
   pub wake-keeps : Shaped (r .dispatcher) × Sound (r .dispatcher)
-  wake-keeps = promised-keeps (λ x. Shaped x × Sound x) W (L, S) (λ z. woken-keeps L S (slot-below (W .answer) z) (wake-off z) (wake-used z) (W .done z))
+  wake-keeps = promised-keeps (λ x. Shaped x × Sound x) W (L, S) (λ z. woken-keeps L S (called-below d (W .answer) z) (wake-off z) (wake-used z) (W .done z))
 
   pub wake-ready : numberOf (r .report .answer) ≡ 0 → (t : ℕ) → Ready (r .dispatcher) t ↔ (Ready d t ⊎ (t ≡ slot))
-  wake-ready z = woken-ready L S (slot-below (W .answer) z) (wake-off z) (W .done z)
+  wake-ready z = woken-ready L S (called-below d (W .answer) z) (wake-off z) (W .done z)
 
 pub wake-rule : {d : Dispatcher} {slot : ℕ} {r : Outcome} → Shaped d → Sound d → KeepsIn d (seatAt d) → Wakes d slot r → Ruled d r
-wake-rule L S K W = promised-rule W K (λ z. woken-rule L S (slot-below (W .answer) z) (wake-off L S W z) (wake-used L S W z) K (W .done z))
+wake-rule {d} L S K W = promised-rule W K (λ z. woken-rule L S (called-below d (W .answer) z) (wake-off L S W z) (wake-used L S W z) K (W .done z))
 
 -- an equal priority never pushes: who stops has a lower one
 pub stopped-lower : {d : Dispatcher} {slot : ℕ} {r : Outcome} → Shaped d → Sound d → Wakes d slot r → numberOf (r .report .answer) ≡ 0 → r .report .stopped ≢ none
@@ -127,7 +128,7 @@ stopped-lower {d} {slot} {r} L S W z n = go (W .done z .arrives)
 
         lower : ComesBefore (joinedOf d slot) slot (seatAt d (h .core)) → priorityOf d (seatAt d (h .core)) < priorityOf d slot
         lower (inl l) = l
-        lower (inr (e, l)) = let k = joined-last L S (slot-below (W .answer) z) (wake-off L S W z) sitter in absurd (omega arith)
+        lower (inr (e, l)) = let k = joined-last L S (called-below d (W .answer) z) (wake-off L S W z) sitter in absurd (omega arith)
 
 -- ---- a task leaves the wake order, and the seats are l
 

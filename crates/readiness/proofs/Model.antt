@@ -1,15 +1,15 @@
--- What wake and block do, as functions that compute, over what the test of soundness says; and that they meet the promises.
+-- What wake and block do, as functions that compute, over what the check of soundness says; and that they meet the promises.
 use Prim.Native.Nat.{ℕ, _<_}
 use mathlib.Core.Path.{_≡_, refl, sym, _∙_}
 use mathlib.Core.Logic.{_≢_, _⊎_, inl, inr}
-use mathlib.Core.Bool.{Bool, true, false, not, cond}
+use mathlib.Core.Bool.{true, false, not, cond}
 use mathlib.Core.List.{List, [], _∷_}
 use native.Mathlib.Decide.{ℕ-discrete}
 use native.Mathlib.Omega.{arith}
 use lib.Dec.{eqb}
 use borrow.Author.Tests.{eq-eqb, ne-eqb, ltb-true}
 use Rattle.laws.specs.Decides.{Decides}
-use Rattle.laws.specs.Answering.{Refusal, _when_, Answers}
+use Rattle.laws.specs.Answering.{Refusal}
 use Rattle.laws.proofs.Deciding.{cases, decides-not}
 use Rattle.laws.proofs.Answering.{none-applies}
 use Rattle.seating.proofs.Take.{seats}
@@ -19,20 +19,21 @@ use Rattle.dispatcher.specs.Limits.{slotLimit, none}
 use Rattle.dispatcher.specs.Slots.{taskAt, seatAt, Used, Ready, Shaped}
 use Rattle.dispatcher.specs.Sound.{Sound}
 use Rattle.dispatcher.specs.Answers.{numberOf}
-use Rattle.dispatcher.specs.Refusals.{IsUnsound}
+use Rattle.dispatcher.specs.Unsound.{unsoundRefusals}
 use Rattle.dispatcher.specs.Reports.{stillOf}
-use Rattle.dispatcher.specs.Promise.{Promised}
+use Rattle.dispatcher.specs.Promise.{Answered, Promised}
 use Rattle.dispatcher.specs.declared.Answer.{Answer}
 use Rattle.dispatcher.specs.declared.Answer.the-variants.{Done, AlreadyReady, NotReady}
 use Rattle.dispatcher.specs.declared.Dispatcher.{Dispatcher}
 use Rattle.dispatcher.specs.declared.Outcome.{Outcome}
-use Rattle.dispatcher.proofs.Judging.{test, firstOf}
+use Rattle.dispatcher.proofs.Judging.{test}
 use Rattle.dispatcher.proofs.Testing.{readyTest, ready-decides}
-use Rattle.dispatcher.proofs.Promises.{slot-below}
+use Rattle.dispatcher.proofs.Unsound.{done-sound, done-own, checkedThen}
+use Rattle.dispatcher.proofs.Promises.{called-below, refused, accepted}
 use Rattle.order.specs.ComesBefore.{ComesBefore}
 use Rattle.order.specs.Changes.{joinedOf, leftOf}
 use Rattle.order.proofs.Joining.{joined-shaped, joined-sound, joined-new}
-use Rattle.tasks.proofs.Model.{namedTests, named-and}
+use Rattle.tasks.proofs.Model.{slotTests, named-and}
 use Rattle.shifting.specs.Board.{mayRun, Runs}
 use Rattle.shifting.specs.Arriving.{ArrivesIn}
 use Rattle.shifting.specs.Filling.{FillsIn}
@@ -71,20 +72,15 @@ fill-in {d} z L S =
 abbrev refusedOr : Answer → Dispatcher → Outcome → Outcome
 refusedOr a d done = cond (eqb (numberOf a) 0) done (record { report = stillOf a; dispatcher = d })
 
-refused-or : {rs : List Refusal} {d : Dispatcher} {Does : Outcome → Type 0} (a : Answer) (o : Outcome) → Answers rs (numberOf a) → (numberOf a ≡ 0 → (numberOf (o .report .answer) ≡ 0) × Does o)
+refused-or : {rs : List Refusal} {d : Dispatcher} {Does : Outcome → Type 0} (a : Answer) (o : Outcome) → Answered rs d a → (numberOf a ≡ 0 → (numberOf (o .report .answer) ≡ 0) × Does o)
     → Promised rs d Does (refusedOr a d o)
 refused-or {rs} {d} {Does} a o h does = go (ℕ-discrete (numberOf a) 0)
   where
     go : Dec (numberOf a ≡ 0) → Promised rs d Does (refusedOr a d o)
     go (yes z) =
         let k = does z in
-        rw (eq-eqb (numberOf a) 0 z) (record { answer = rw (k .0 ∙ sym z) h; done = λ _. k .1; kept = λ n. absurd (n (k .0)); still = λ n. absurd (n (k .0)) })
-    go (no n) = rw (ne-eqb (numberOf a) 0 n) (record { answer = h; done = λ z. absurd (n z); kept = λ _. refl; still = λ _. refl })
-
--- a call that is done found its dispatcher sound
-done-sound : {b : Bool} {d : Dispatcher} {rs : List Refusal} {n : ℕ} → Decides (Sound d) b → Answers (1 when IsUnsound d ∷ rs) n → n ≡ 0 → Sound d
-done-sound {b = true} s h z = s .yes refl
-done-sound {b = false} s h z = absurd (none-applies h z 1 (inl (refl, s .no refl)))
+        rw (eq-eqb (numberOf a) 0 z) (accepted (rw z at (h .answer)) (k .0) (k .1))
+    go (no n) = rw (ne-eqb (numberOf a) 0 n) (refused a h n refl)
 
 -- ---- wake
 
@@ -98,18 +94,20 @@ woken {d} {slot} L S below used off = record {
   arrives = arrive-in (joined-shaped slot L) (joined-sound L S below off used) (joined-new L S below off);
 }
 
-abbrev wakeAnswer : Bool → Dispatcher → ℕ → Answer
-wakeAnswer sound d slot = firstOf (namedTests sound d slot (test (readyTest d slot) AlreadyReady ∷ []))
+-- j is what the check of soundness says
+abbrev wakeAnswer : Answer → Dispatcher → ℕ → Answer
+wakeAnswer j d slot = checkedThen j (slotTests d slot (test (readyTest d slot) AlreadyReady ∷ []))
 
-abbrev pub wakeOf : Bool → Dispatcher → ℕ → Outcome
-wakeOf sound d slot = refusedOr (wakeAnswer sound d slot) d (wokenOf d slot)
+abbrev pub wakeOf : Answer → Dispatcher → ℕ → Outcome
+wakeOf j d slot = refusedOr (wakeAnswer j d slot) d (wokenOf d slot)
 
-pub wake-wakes : {b : Bool} (d : Dispatcher) (slot : ℕ) → Shaped d → Decides (Sound d) b → Wakes d slot (wakeOf b d slot)
-wake-wakes {b} d slot L s =
-    let h = named-and d slot AlreadyReady s (ready-decides d slot) (omega arith) in
-    refused-or (wakeAnswer b d slot) (wokenOf d slot) h (λ z. (
+pub wake-wakes : {d : Dispatcher} (j : Answer) (slot : ℕ) → Shaped d → Answered (unsoundRefusals d) d j → Wakes d slot (wakeOf j d slot)
+wake-wakes {d} j slot L s =
+    let h = named-and slot j AlreadyReady s (ready-decides d slot) (omega arith) in
+    refused-or (wakeAnswer j d slot) (wokenOf d slot) h (λ z.
+    let own = done-own d _ (h .answer) z in (
       refl,
-      woken L (done-sound s h z) (slot-below h z) (λ e. none-applies h z 5 (inr (inr (inl (refl, e))))) (λ r. none-applies h z 9 (inr (inr (inr (inl (refl, r)))))),
+      woken L (done-sound d (h .answer) z) (called-below d (h .answer) z) (λ e. none-applies own refl 5 (inr (inl (refl, e)))) (λ r. none-applies own refl 9 (inr (inr (inl (refl, r))))),
     ))
 
 -- ---- block
@@ -138,13 +136,13 @@ blocked {d} {slot} L S real = go (cases (runTest d slot)) (run-decides L S real)
         here z l e = legal S .once z (seatOf d slot) l there (λ q. real (sym e ∙ q)) (e ∙ sym sits)
     go (inr n) D = rw n (refl, record { waited = λ _. (refl, refl); ran = λ z l e. absurd (D .no n (record { real = real; core = z; below = l; sits = e })) })
 
-abbrev blockAnswer : Bool → Dispatcher → ℕ → Answer
-blockAnswer sound d slot = firstOf (namedTests sound d slot (test (not (readyTest d slot)) NotReady ∷ []))
+abbrev blockAnswer : Answer → Dispatcher → ℕ → Answer
+blockAnswer j d slot = checkedThen j (slotTests d slot (test (not (readyTest d slot)) NotReady ∷ []))
 
-abbrev pub blockOf : Bool → Dispatcher → ℕ → Outcome
-blockOf sound d slot = refusedOr (blockAnswer sound d slot) d (blockedOf d slot)
+abbrev pub blockOf : Answer → Dispatcher → ℕ → Outcome
+blockOf j d slot = refusedOr (blockAnswer j d slot) d (blockedOf d slot)
 
-pub block-blocks : {b : Bool} (d : Dispatcher) (slot : ℕ) → Shaped d → Decides (Sound d) b → Blocks d slot (blockOf b d slot)
-block-blocks {b} d slot L s =
-    let h = named-and d slot NotReady s (decides-not (ready-decides d slot)) (omega arith) in
-    refused-or (blockAnswer b d slot) (blockedOf d slot) h (λ z. let l = slot-below h z in blocked L (done-sound s h z) (λ e. omega (arith, e, l)))
+pub block-blocks : {d : Dispatcher} (j : Answer) (slot : ℕ) → Shaped d → Answered (unsoundRefusals d) d j → Blocks d slot (blockOf j d slot)
+block-blocks {d} j slot L s =
+    let h = named-and slot j NotReady s (decides-not (ready-decides d slot)) (omega arith) in
+    refused-or (blockAnswer j d slot) (blockedOf d slot) h (λ z. let l = called-below d (h .answer) z in blocked L (done-sound d (h .answer) z) (λ e. omega (arith, e, l)))

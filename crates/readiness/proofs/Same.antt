@@ -67,4 +67,4 @@ pub blocks-same : {d : Dispatcher} {slot : ℕ} {r q : Outcome} → Blocks d slo
 blocks-same {d} {slot} a b = promised-same (λ e f g. blocked-same (f .1) e (f .0) (g .0)) (from-ready a) (from-ready b)
   where
     from-ready : {o : Outcome} → Blocks d slot o → Promised (blockRefusals d slot) d (λ p. Blocked d slot p × Ready d slot) o
-    from-ready h = record { answer = h .answer; done = λ z. (h .done z, block-was h z); kept = h .kept; still = h .still }
+    from-ready h = record { answer = h .answer; place = h .place; done = λ z. (h .done z, block-was h z); kept = h .kept; still = h .still }

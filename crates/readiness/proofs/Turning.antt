@@ -14,8 +14,9 @@ use Rattle.dispatcher.specs.Reports.{stillOf}
 use Rattle.dispatcher.specs.declared.Answer.the-variants.{Done}
 use Rattle.dispatcher.specs.declared.Dispatcher.{Dispatcher}
 use Rattle.dispatcher.specs.declared.Outcome.{Outcome}
-use Rattle.dispatcher.proofs.Promises.{slot-below, accepted}
-use Rattle.dispatcher.proofs.Stable.{not-unsound, not-unready}
+use Rattle.dispatcher.proofs.Promises.{called-below, accepted}
+use Rattle.dispatcher.proofs.Stable.{not-unready}
+use Rattle.dispatcher.proofs.Unsound.{done-sound, done-own}
 use Rattle.order.specs.Changes.{joinOrder, leaveOrder}
 use Rattle.order.proofs.Joining.{joined-new, joined-sound}
 use Rattle.shifting.specs.Board.{withSeats}
@@ -43,18 +44,18 @@ shiftedOf d s = record { report = reportOf s; dispatcher = withSeats d (s .seats
 
 module _ {d : Dispatcher} {slot : ℕ} (h : Answers (wakeRefusals d slot) 0) where
   woken-sound : Sound d
-  woken-sound = not-unsound d (λ u. none-applies h refl 1 (inl (refl, u)))
+  woken-sound = done-sound d h refl
 
   off : Ready d slot → ⊥
-  off r = none-applies h refl 9 (inr (inr (inr (inl (refl, r)))))
+  off r = none-applies (done-own d _ h refl) refl 9 (inr (inr (inl (refl, r))))
 
   used : Used (taskAt d slot)
-  used e = none-applies h refl 5 (inr (inr (inl (refl, e))))
+  used e = none-applies (done-own d _ h refl) refl 5 (inr (inl (refl, e)))
 
   pub joined-arriving : {order : List ℕ} → Shaped d → order ≡ joinOrder (d .order) slot → Arriving (withOrder d order) slot
   joined-arriving L q = rw q (record {
-    sound = joined-sound L woken-sound (slot-below h refl) off used;
-    waits = record { ready = joined-new L woken-sound (slot-below h refl) off; off = λ r. off (runs-ready (legal woken-sound) r) };
+    sound = joined-sound L woken-sound (called-below d h refl) off used;
+    waits = record { ready = joined-new L woken-sound (called-below d h refl) off; off = λ r. off (runs-ready (legal woken-sound) r) };
   })
 
   pub arrived-wakes : {order : List ℕ} {r : Outcome} (s : Shift) → Shaped d → order ≡ joinOrder (d .order) slot → Arrived (withOrder d order) slot s → length (s .seats) ≡ coreLimit
@@ -72,10 +73,10 @@ core-below-limit n (inr s) = absurd (n (s .is))
 
 module _ {d : Dispatcher} {slot : ℕ} (h : Answers (blockRefusals d slot) 0) where
   pub blocked-sound : Sound d
-  blocked-sound = not-unsound d (λ u. none-applies h refl 1 (inl (refl, u)))
+  blocked-sound = done-sound d h refl
 
   pub blocked-ready : Ready d slot
-  blocked-ready = not-unready d slot (λ n. none-applies h refl 10 (inr (inr (inr (inl (refl, n))))))
+  blocked-ready = not-unready d slot (λ n. none-applies (done-own d _ h refl) refl 10 (inr (inr (inl (refl, n)))))
 
   sits-below : {c : ℕ} → c < coreLimit → seatAt d c ≡ slot → c < d .cores
   sits-below l q = seat-below blocked-sound l (λ z. ready-real blocked-ready (sym q ∙ z))

@@ -1,12 +1,13 @@
 -- Document 01, "Block": the task is no longer ready. If it waited, nothing else changes. If it ran, its core is idle, and a waiting task that reaches it may start.
 use Prim.Native.Nat.{ℕ, _<_}
 use mathlib.Core.Path.{_≡_}
-use mathlib.Core.List.{List, [], _∷_}
+use mathlib.Core.List.{List, [], _∷_, _++_}
 use lib.ListN.{length, set}
 use Rattle.laws.specs.Answering.{Refusal, _when_}
 use Rattle.dispatcher.specs.Limits.{none}
 use Rattle.dispatcher.specs.Slots.{seatAt}
-use Rattle.dispatcher.specs.Refusals.{IsUnsound, IsAbove, IsEmpty, IsNotReady}
+use Rattle.dispatcher.specs.Refusals.{IsAbove, IsEmpty, IsNotReady}
+use Rattle.dispatcher.specs.Unsound.{unsoundRefusals}
 use Rattle.dispatcher.specs.Reports.{stillOf}
 use Rattle.dispatcher.specs.Promise.{Promised}
 use Rattle.dispatcher.specs.declared.Dispatcher.{Dispatcher}
@@ -31,11 +32,10 @@ pub record Blocked (d : Dispatcher) (slot : ℕ) (r : Outcome) : Type 0 where
   pub ran : (z : ℕ) → z < d .cores → seatAt d z ≡ slot → Refills (freedOf d slot z) z r
 
 abbrev pub blockRefusals : Dispatcher → ℕ → List Refusal
-blockRefusals d slot =
-    1 when IsUnsound d ∷
+blockRefusals d slot = unsoundRefusals d ++ (
     3 when IsAbove slot ∷
     5 when IsEmpty d slot ∷
-    10 when IsNotReady d slot ∷ []
+    10 when IsNotReady d slot ∷ [])
 
 abbrev pub Blocks : Dispatcher → ℕ → Outcome → Type 0
 Blocks d slot r = Promised (blockRefusals d slot) d (Blocked d slot) r

@@ -1,7 +1,6 @@
 // Wake and block by value: a task becomes ready and seeks a core, or is no longer ready and its core seeks another task.
 ghost use mathlib.Core.Path.{_≡_};
-ghost use Rattle.laws.specs.Answering.{Answers};
-ghost use Rattle.dispatcher.specs.Answers.{numberOf};
+ghost use Rattle.dispatcher.specs.Promise.{Answered};
 ghost use Rattle.readiness.specs.Wake.{wakeRefusals, Wakes};
 ghost use Rattle.readiness.specs.Block.{blockRefusals, Blocks};
 ghost use Rattle.readiness.specs.Seats.{CoreOf, reportOf};
@@ -12,7 +11,7 @@ use dispatcher::Report;
 use shifting::Shift;
 
 fn wake_answer(d: Dispatcher, slot: u16) -> Answer
-    ensures { λ r. ⌜ Answers (wakeRefusals d slot) (numberOf r) ⌝ }
+    ensures { λ r. ⌜ Answered (wakeRefusals d slot) d r ⌝ }
 {
     let answer = tasks::named(d, slot);
     if answer.number() != 0 {
@@ -25,7 +24,7 @@ fn wake_answer(d: Dispatcher, slot: u16) -> Answer
 }
 
 fn block_answer(d: Dispatcher, slot: u16) -> Answer
-    ensures { λ r. ⌜ Answers (blockRefusals d slot) (numberOf r) ⌝ }
+    ensures { λ r. ⌜ Answered (blockRefusals d slot) d r ⌝ }
 {
     let answer = tasks::named(d, slot);
     if answer.number() != 0 {

@@ -1,4 +1,6 @@
+mod Finding
 mod Holding
 mod Entering
 mod Sitting
-mod Keeping
+mod Telling
+pub mod Naming

@@ -1,7 +1,7 @@
--- The seats: the marks of the slots that sit on a lower core, the test of one core, and what a core whose slot does not fit means.
+-- The seats: the marks of the slots that sit on a lower core, the test of one core, and that the cores from the count on are kept.
 use Prim.Native.Nat.{ℕ, _+_, _≤_, _<_}
 use mathlib.Core.Path.{_≡_, sym, _∙_}
-use mathlib.Core.Logic.{_≢_, _⊎_, inl, inr}
+use mathlib.Core.Logic.{_≢_}
 use mathlib.Core.Bool.{Bool, true, false}
 use mathlib.Core.List.{List}
 use native.Mathlib.Decide.{ℕ-discrete, decLt}
@@ -9,19 +9,16 @@ use native.Mathlib.Omega.{arith}
 use lib.ListN.{length, getD, set, replicate, length-set, length-replicate, getD-replicate}
 use lib.Seq.{getD-set-same, getD-set-other}
 use Rattle.laws.specs.Decides.{Decides}
-use Rattle.laws.specs.Lowest.{Throughout}
-use Rattle.laws.proofs.Deciding.{clash, decides-same, decides-true, decides-false, decides-is, decides-by}
+use Rattle.laws.specs.Lowest.{Lowest}
+use Rattle.laws.proofs.Deciding.{decides-same, decides-true, decides-false, decides-is, decides-by}
 use Rattle.masks.specs.Masks.{has}
-use Rattle.masks.proofs.Bits.{has-zero}
 use Rattle.dispatcher.specs.Limits.{coreLimit, slotLimit, none}
-use Rattle.dispatcher.specs.Slots.{taskAt, seatAt, Ready}
-use Rattle.dispatcher.specs.Sound.{CountLegal, MissingIdle, Seated, SeatKept}
+use Rattle.dispatcher.specs.Slots.{taskAt, seatAt}
+use Rattle.dispatcher.specs.Sound.{CountLegal, MissingIdle, SeatKept, SeatsKept}
 use Rattle.dispatcher.specs.declared.Dispatcher.{Dispatcher}
-use Rattle.soundness.specs.Found.{Finds}
-use Rattle.soundness.specs.Parts.{HeldBelow, UnusedFrom, Fits, SeatFits}
-use Rattle.soundness.specs.Entries.{MaskBelow, Entries}
-use Rattle.soundness.specs.declared.Found.{Found}
-use Rattle.soundness.specs.declared.Found.the-variants.{At, Nothing}
+use Rattle.soundness.specs.Finds.{Finds}
+use Rattle.soundness.specs.Parts.{HeldBelow}
+use Rattle.soundness.specs.Entries.{TellsReady}
 use Rattle.soundness.proofs.Holding.{held-none, held-here, held-on, held-before}
 
 -- ---- the marks
@@ -53,53 +50,35 @@ module _ {seats : List ℕ} {c v : ℕ} {seated : List Bool} (holds : getD seats
   pub marks-idle : slotLimit ≤ v → Marks seats (c + 1) seated
   marks-idle large = record { long = m .long; each = λ s h. still (λ e. omega arith) (m .each s h) }
 
-  pub seat-decides : (masks : List ℕ) → v < slotLimit → {r : Bool} → Decides ((getD seated v false ≡ false) × (has (getD masks v 0) c ≡ true)) r → Decides (SeatFits seats masks c) r
-  seat-decides masks small = decides-by
-      (λ h o. record { slot = rw holds small; once = rw holds (m .each v small .no (h .0)); allowed = rw holds (h .1) })
-      (λ h. let f = h (λ q. omega (arith, q, holds)) in (decides-same (m .each v small) (decides-false (rw holds at (f .once))), rw holds at (f .allowed)))
+pub seat-decides : {d : Dispatcher} {c v : ℕ} {seated : List Bool} {places : List ℕ} → seatAt d c ≡ v → Marks (d .seats) c seated → TellsReady d places → v < slotLimit
+    → {r : Bool} → Decides ((getD seated v false ≡ false) × (getD places v none ≢ none) × (has (taskAt d v .mask) c ≡ true)) r → Decides (SeatKept d c) r
+seat-decides {v} holds m t small = decides-by
+    (λ h _. record {
+      ready = rw holds (t .ready v small (h .1));
+      once = λ b l q. m .each v small .no (h .0) (record { place = b; below = l; holds = q ∙ holds });
+      allowed = rw holds (h .2);
+    })
+    (λ h. let f = h (λ q. omega (arith, q, holds)) in (
+      decides-same (m .each v small) (decides-false (λ x. f .once (x .place) (x .below) (x .holds ∙ sym holds))),
+      t .told v (rw holds at (f .ready)),
+      rw holds at (f .allowed),
+    ))
 
-pub seat-above : (seats masks : List ℕ) (c : ℕ) → slotLimit ≤ getD seats c none → getD seats c none ≢ none → SeatFits seats masks c → ⊥
-seat-above seats masks c l n h = let f = h n in omega (arith, f .slot)
+pub seat-above : (d : Dispatcher) (c : ℕ) → slotLimit ≤ seatAt d c → seatAt d c ≢ none → SeatKept d c → ⊥
+seat-above d c l n h = let f = h n in omega (arith, f .ready .slot)
 
-pub seat-idle : (seats masks : List ℕ) (c : ℕ) → getD seats c none ≡ none → SeatFits seats masks c
-seat-idle seats masks c e n = absurd (n e)
+pub seat-idle : (d : Dispatcher) (c : ℕ) → seatAt d c ≡ none → SeatKept d c
+seat-idle d c e n = absurd (n e)
 
--- ---- the masks of the ready tasks: the lowest core whose slot does not fit them is the lowest that breaks (e)
+-- ---- all cores, where a search has gone over those below the count
 
--- m is the task's mask where slot s is ready, and 0 where it is not
-abbrev ReadyMask : Dispatcher → ℕ → ℕ → Type 0
-ReadyMask d s m = (Ready d s × (m ≡ taskAt d s .mask)) ⊎ ((Ready d s → ⊥) × (m ≡ 0))
+pub seat-lowest : {d : Dispatcher} {c : ℕ} → CountLegal d → Finds (d .cores) (SeatKept d) c → c < d .cores → Lowest coreLimit (SeatKept d) c
+seat-lowest n f l = record { below = omega (arith, n .1); fails = f .breaks l; lower = f .lower }
 
-module _ {d : Dispatcher} {k : ℕ} {masks : List ℕ} (e : Entries d k masks) (rest : Throughout slotLimit (UnusedFrom (d .order) k)) where
-  ready-mask : (s : ℕ) → s < slotLimit → ReadyMask d s (getD masks s 0)
-  ready-mask s l = go (e .each s l)
-    where
-      held : (r : Ready d s) → Dec (r .place < k) → HeldBelow (d .order) k s
-      held r (yes b) = record { place = r .place; below = b; holds = r .stands }
-      held r (no b) = let q = rest (r .place) (r .within) (omega arith) in absurd (omega (arith, r .stands))
-
-      go : MaskBelow d k s (getD masks s 0) → ReadyMask d s (getD masks s 0)
-      go (inl x) = inl (record { slot = l; place = x .0 .place; within = omega (arith, x .0 .below, e .within); stands = x .0 .holds }, x .1)
-      go (inr x) = inr ((λ r. x .0 (held r (decLt (r .place) k))), x .1)
-
-  fits-kept : (c : ℕ) → SeatFits (d .seats) masks c → SeatKept d c
-  fits-kept c h o = let f = h o in go f (ready-mask (seatAt d c) (f .slot))
-    where
-      go : Fits (d .seats) masks c → ReadyMask d (seatAt d c) (getD masks (seatAt d c) 0) → Seated d c
-      go f (inl x) = record { ready = x .0; once = λ b l q. f .once (record { place = b; below = l; holds = q }); allowed = rw (x .1) at (f .allowed) }
-      go f (inr x) = clash (rw (x .1) at (f .allowed)) (has-zero c)
-
-  kept-fits : (c : ℕ) → SeatKept d c → SeatFits (d .seats) masks c
-  kept-fits c h o = let t = h o in go t (ready-mask (seatAt d c) (t .ready .slot))
-    where
-      go : Seated d c → ReadyMask d (seatAt d c) (getD masks (seatAt d c) 0) → Fits (d .seats) masks c
-      go t (inl x) = record { slot = t .ready .slot; once = λ h. t .once (h .place) (h .below) (h .holds); allowed = rw (x .1) (t .allowed) }
-      go t (inr x) = absurd (x .0 (t .ready))
-
-  pub seats-find : CountLegal d → MissingIdle d → (f : Found) → Finds (d .cores) (SeatFits (d .seats) masks) f → Finds coreLimit (SeatKept d) f
-  seats-find n idle (At c) h = record { below = omega (arith, h .below, n .1); fails = λ t. h .fails (kept-fits c t); lower = λ b l. fits-kept b (h .lower b l) }
-  seats-find n idle Nothing h = λ c l. go c l (decLt c (d .cores))
-    where
-      go : (c : ℕ) → c < coreLimit → Dec (c < d .cores) → SeatKept d c
-      go c l (yes b) = fits-kept c (h c b)
-      go c l (no b) = λ o. absurd (o (idle c l (omega arith)))
+-- the cores from the count on are idle
+pub seats-kept : {d : Dispatcher} → MissingIdle d → ((c : ℕ) → c < d .cores → SeatKept d c) → SeatsKept d
+seats-kept {d} idle kept c l = go (decLt c (d .cores))
+  where
+    go : Dec (c < d .cores) → SeatKept d c
+    go (yes b) = kept c b
+    go (no b) = seat-idle d c (idle c l (omega arith))

@@ -1,6 +1,5 @@
-// Whether a dispatcher is sound. For each of document 01's conditions (a) to (e) the lowest slot, place or core that breaks it is searched
-// for, in this order: a later search relies on what the earlier ones have found kept.
-ghost use Prim.Native.Nat.{_≤_};
+// What is unsound in a dispatcher. For each of document 01's conditions (a) to (e) the lowest slot, place or core that breaks it is searched
+// for, in this order: a later search relies on what the earlier ones have found kept. A search that finds none answers how many it went over.
 ghost use mathlib.Core.Path.{_≡_};
 ghost use mathlib.Core.Logic.{_≢_};
 ghost use mathlib.Core.Bool.{true, false};
@@ -8,38 +7,15 @@ ghost use lib.ListN.{length};
 ghost use Rattle.laws.specs.Decides.{Decides};
 ghost use Rattle.laws.specs.Lowest.{Throughout};
 ghost use Rattle.masks.specs.Masks.{has};
-ghost use Rattle.dispatcher.specs.Limits.{slotLimit};
-ghost use Rattle.dispatcher.specs.Sound.{LegalTask, SlotKept, SlotsLegal, Sound};
-ghost use Rattle.soundness.specs.Found.{isNothing, FindsCount, Finds};
-ghost use Rattle.soundness.specs.Entries.{EntriesEnd};
-ghost use Rattle.soundness.specs.Parts.{UnusedFrom, SeatFits};
+ghost use Rattle.dispatcher.specs.Limits.{slotLimit, none};
+ghost use Rattle.dispatcher.specs.Sound.{CountLegal, LegalTask, SlotKept, SlotsLegal, SeatKept};
+ghost use Rattle.dispatcher.specs.Unsound.{unsoundRefusals};
+ghost use Rattle.dispatcher.specs.Promise.{Answered};
+ghost use Rattle.soundness.specs.Finds.{Finds};
+ghost use Rattle.soundness.specs.Entries.{EntriesEnd, TellsReady};
+ghost use Rattle.soundness.specs.Parts.{UnusedFrom};
+use dispatcher::Answer;
 use dispatcher::Dispatcher;
-
-// What a search finds: where a condition is broken, or nothing.
-enum Found {
-    At(usize),
-    Nothing,
-}
-
-fn is_nothing(found: Found) -> bool
-    ensures { λ r. ⌜ r ≡ isNothing found ⌝ }
-{
-    match found {
-        Found::At(_) => false,
-        Found::Nothing => true,
-    }
-}
-
-// (a) The count, where it is not 1 to 32.
-fn wrong_count(cores: u8) -> Found
-    ensures { λ r. ⌜ FindsCount cores r ⌝ }
-{
-    if Dispatcher::legal_count(cores) {
-        Found::Nothing
-    } else {
-        Found::At(cores as usize)
-    }
-}
 
 fn legal(priority: u8, mask: u32, cores: u8) -> bool
     ensures { λ r. ⌜ Decides (LegalTask cores (record { priority = priority; mask = mask })) r ⌝ }
@@ -54,7 +30,7 @@ fn legal(priority: u8, mask: u32, cores: u8) -> bool
 }
 
 // (b) The lowest used slot with an illegal priority or mask. An empty slot, as most are, is passed after two tests.
-fn illegal_slot(d: Dispatcher) -> Found
+fn illegal_slot(d: Dispatcher) -> usize
     ensures { λ r. ⌜ Finds slotLimit (SlotKept d) r ⌝ }
 {
     let cores = d.cores;
@@ -64,55 +40,54 @@ fn illegal_slot(d: Dispatcher) -> Found
         let mask = d.tasks[s].mask;
         if priority == 0 {
             if mask != 0 {
-                return Found::At(s);
+                return s;
             }
         } else {
             if !legal(priority, mask, cores) {
-                return Found::At(s);
+                return s;
             }
         }
         s += 1;
     }
-    Found::Nothing
+    s
 }
 
-// The entries of the wake order: the place where they end, and for each slot among them the mask of its task, 0 for every other slot.
+// The entries of the wake order: the place where they end, and for each slot the place among them where it stands, or NONE.
 struct Woken {
     end: usize,
-    masks: [u32; Dispatcher::SLOTS],
+    places: [u16; Dispatcher::SLOTS],
 }
 
-fn is_entry(mask: u32, met: u32) -> bool
-    ensures { λ r. ⌜ Decides ((mask ≢ 0) × (met ≡ 0)) r ⌝ }
+fn is_entry(mask: u32, met: usize) -> bool
+    ensures { λ r. ⌜ Decides ((mask ≢ 0) × (met ≡ none)) r ⌝ }
 {
     if mask == 0 {
         return false;
     }
-    met == 0
+    met == (Dispatcher::NONE as usize)
 }
 
-// (c) The entries go from the first place up to the first that holds no used slot, or one that stands before it too. By (b) a slot has
-// a mask where it is used, and so a mask in the table where it was met.
+// (c) The entries go from the first place up to the first that holds no used slot, or one that was met before it. By (b) a slot has a
+// mask where it is used.
 fn entries(d: Dispatcher) -> Woken
     requires { ⌜ SlotsLegal d ⌝ }
-    ensures { λ r. ⌜ EntriesEnd d (r .end) (r .masks) ⌝ }
+    ensures { λ r. ⌜ EntriesEnd d (r .end) (r .places) ⌝ }
 {
-    let masks = [0u32; Dispatcher::SLOTS];
-    let mut woken = Woken { end: 0, masks };
-    while woken.end < Dispatcher::SLOTS {
-        let k = woken.end;
+    let mut places = [Dispatcher::NONE; Dispatcher::SLOTS];
+    let mut k: usize = 0;
+    while k < Dispatcher::SLOTS {
         let slot = d.order[k] as usize;
         if Dispatcher::SLOTS <= slot {
-            return woken;
+            return Woken { end: k, places };
         }
-        let mask = d.tasks[slot].mask;
-        if !is_entry(mask, woken.masks[slot]) {
-            return woken;
+        let met = places[slot] as usize;
+        if !is_entry(d.tasks[slot].mask, met) {
+            return Woken { end: k, places }; // not where it was met: of two equal entries the later one
         }
-        woken.masks[slot] = mask;
-        woken.end = k + 1;
+        places[slot] = k as u16;
+        k += 1;
     }
-    woken
+    Woken { end: k, places }
 }
 
 // Whether all places from `from` on hold NONE. The loop has no exit, so that the compiler compares many places at once.
@@ -133,77 +108,89 @@ fn unused(list: &[u16], from: usize) -> bool
 
 // The lowest place from `from` on that does not hold NONE. After the entries of the wake order it is the lowest that breaks (c): the
 // entries end at it, or it stands after a gap. After the dispatcher's cores it is the lowest that breaks (d).
-fn surplus(list: &[u16], from: usize) -> Found
+fn surplus(list: &[u16], from: usize) -> usize
     ensures { λ r. ⌜ Finds (length (now (list .entry))) (UnusedFrom (now (list .entry)) from) r ⌝ }
 {
     if unused(list, from) {
-        return Found::Nothing;
+        return list.len();
     }
     let mut k = from;
     while k < list.len() {
         if list[k] != Dispatcher::NONE {
-            return Found::At(k);
+            return k;
         }
         k += 1;
     }
-    Found::Nothing
+    list.len()
 }
 
-fn may_sit(seated: bool, mask: u32, c: usize) -> bool
-    ensures { λ r. ⌜ Decides ((seated ≡ false) × (has mask c ≡ true)) r ⌝ }
+fn may_sit(seated: bool, place: u16, mask: u32, c: usize) -> bool
+    ensures { λ r. ⌜ Decides ((seated ≡ false) × (place ≢ none) × (has mask c ≡ true)) r ⌝ }
 {
     if seated {
+        return false;
+    }
+    if place == Dispatcher::NONE {
         return false;
     }
     masks::has(mask, c)
 }
 
-// (e) The lowest core below the count whose slot sits on a lower core too, is not in the wake order or may not use the core. The table
-// has mask 0 for a slot that is not in the wake order. By (d) the cores from the count on are idle.
-fn misseated(seats: &[u16], count: usize, masks: &[u32; Dispatcher::SLOTS]) -> Found
-    requires { ⌜ count ≤ length (now seats) ⌝ }
-    ensures { λ r. ⌜ Finds count (SeatFits (now (seats .entry)) (now (masks .entry))) r ⌝ }
+// (e) The lowest core below the count whose slot is not in the wake order, sits on a lower core too or may not use the core. By (d) the
+// cores from the count on are idle.
+fn misseated(d: Dispatcher, places: &[u16; Dispatcher::SLOTS]) -> usize
+    requires { ⌜ CountLegal d × TellsReady d (now places) ⌝ }
+    ensures { λ r. ⌜ Finds (d .cores) (SeatKept d) r ⌝ }
 {
+    let count = d.cores as usize;
     let mut seated = [false; Dispatcher::SLOTS];
     let mut c: usize = 0;
     while c < count {
-        let sits = seats[c];
+        let sits = d.seats[c];
         let slot = sits as usize;
         if slot < Dispatcher::SLOTS {
-            if !may_sit(seated[slot], masks[slot], c) {
-                return Found::At(c);
+            if !may_sit(seated[slot], places[slot], d.tasks[slot].mask, c) {
+                return c; // of two cores with one slot the later one
             }
             seated[slot] = true;
         } else {
             if sits != Dispatcher::NONE {
-                return Found::At(c);
+                return c;
             }
         }
         c += 1;
     }
-    Found::Nothing
+    c
 }
 
-// Whether conditions (a) to (e) all hold.
-pub fn sound(d: Dispatcher) -> bool
-    ensures { λ r. ⌜ Decides (Sound d) r ⌝ }
+// The first of the conditions (a) to (e) that is broken: the count for (a), else the lowest slot, place or core that breaks it.
+pub fn check(d: Dispatcher) -> Answer
+    ensures { λ r. ⌜ Answered (unsoundRefusals d) d r ⌝ }
 {
     let cores = d.cores;
-    if !is_nothing(wrong_count(cores)) {
-        return false;
+    if !Dispatcher::legal_count(cores) {
+        return Answer::UnsoundCount(cores as u16);
     }
-    if !is_nothing(illegal_slot(d)) {
-        return false;
+    let slot = illegal_slot(d);
+    if slot < Dispatcher::SLOTS {
+        return Answer::UnsoundSlot(slot as u16);
     }
     let woken = entries(d);
+    let end = woken.end;
     let order = d.order;
-    if !is_nothing(surplus(&order, woken.end)) {
-        return false;
-    }
     let seats = d.seats;
     let count = cores as usize;
-    if !is_nothing(surplus(&seats, count)) {
-        return false;
+    let place = surplus(&order, end);
+    if place < Dispatcher::SLOTS {
+        return Answer::UnsoundPlace(place as u16);
     }
-    is_nothing(misseated(&seats, count, &woken.masks))
+    let missing = surplus(&seats, count);
+    if missing < Dispatcher::CORES {
+        return Answer::UnsoundMissingCore(missing as u16);
+    }
+    let seat = misseated(d, &woken.places);
+    if seat < count {
+        return Answer::UnsoundSeat(seat as u16);
+    }
+    Answer::Done
 }

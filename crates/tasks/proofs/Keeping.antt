@@ -6,6 +6,7 @@ use native.Mathlib.Decide.{ℕ-discrete}
 use native.Mathlib.Omega.{arith}
 use lib.ListN.{length-set}
 use lib.Seq.{getD-set-same, getD-set-other}
+use Rattle.laws.specs.Answering.{Answers}
 use Rattle.laws.proofs.Answering.{none-applies}
 use Rattle.masks.proofs.Bits.{legal-mask}
 use Rattle.dispatcher.specs.Limits.{slotLimit, greatestPriority}
@@ -15,9 +16,10 @@ use Rattle.dispatcher.specs.Answers.{numberOf}
 use Rattle.dispatcher.specs.declared.Task.{Task}
 use Rattle.dispatcher.specs.declared.Dispatcher.{Dispatcher}
 use Rattle.dispatcher.specs.declared.Outcome.{Outcome}
-use Rattle.dispatcher.proofs.Promises.{slot-below}
+use Rattle.dispatcher.proofs.Unsound.{done-own}
+use Rattle.dispatcher.proofs.Promises.{called-below}
 use Rattle.tasks.specs.Table.{withTask}
-use Rattle.tasks.specs.Create.{Creates}
+use Rattle.tasks.specs.Create.{entryRefusals, Creates}
 use Rattle.dispatcher.proofs.Ready.{ready-used, ready-alike}
 
 module _ {d : Dispatcher} {slot : ℕ} {t : Task} (L : Shaped d) (S : Sound d) (below : slot < slotLimit) (off : Ready d slot → ⊥) (legal : Used t → LegalTask (d .cores) t) where
@@ -58,14 +60,17 @@ module _ {d : Dispatcher} {slot : ℕ} {t : Task} (L : Shaped d) (S : Sound d) (
 -- ---- create
 
 module _ {d : Dispatcher} {slot priority mask : ℕ} {r : Outcome} (S : Sound d) (C : Creates d slot priority mask r) (z : numberOf (r .report .answer) ≡ 0) where
+  own : Answers (entryRefusals d slot priority mask) 0
+  own = done-own d (entryRefusals d slot priority mask) (C .answer) z
+
   -- the slot was empty, so it was not ready
   pub created-off : Ready d slot → ⊥
-  created-off q = none-applies (C .answer) z 4 (inr (inr (inl (refl, ready-used S q))))
+  created-off q = none-applies own refl 4 (inr (inl (refl, ready-used S q)))
 
   create-legal : priority ≤ greatestPriority → LegalTask (d .cores) (record { priority = priority; mask = mask })
   create-legal byte = record {
-    priority = (positive (λ e. none-applies (C .answer) z 6 (inr (inr (inr (inl (refl, e)))))), byte);
-    mask = legal-mask (λ e. none-applies (C .answer) z 7 (inr (inr (inr (inr (inl (refl, e))))))) (λ m. none-applies (C .answer) z 8 (inr (inr (inr (inr (inr (inl (refl, m))))))));
+    priority = (positive (λ e. none-applies own refl 6 (inr (inr (inl (refl, e))))), byte);
+    mask = legal-mask (λ e. none-applies own refl 7 (inr (inr (inr (inl (refl, e)))))) (λ m. none-applies own refl 8 (inr (inr (inr (inr (inl (refl, m)))))));
   }
     where
       positive : priority ≢ 0 → 1 ≤ priority
@@ -80,6 +85,6 @@ create-keeps {d} {r} L S byte C = go (ℕ-discrete (numberOf (r .report .answer)
   where
     go : Dec (numberOf (r .report .answer) ≡ 0) → Shaped (r .dispatcher) × Sound (r .dispatcher)
     go (yes z) =
-        let below = slot-below (C .answer) z in
+        let below = called-below d (C .answer) z in
         rw (C .done z .written) (with-task-keeps L S below (created-off S C z) (λ _. create-legal S C z byte))
     go (no z) = rw (C .kept z) (L, S)

@@ -1,26 +1,35 @@
 -- The answers of a call on the task in a slot, where one refusal more can follow.
-use Prim.Native.Nat.{ℕ, _<_}
+use Prim.Native.Nat.{ℕ, _≤_, _<_}
 use mathlib.Core.Path.{_≡_}
 use mathlib.Core.Logic.{_≢_, inl, inr}
 use mathlib.Core.List.{[], _∷_, _++_}
 use native.Mathlib.Omega.{arith}
-use Rattle.laws.specs.Answering.{_when_, Applies, Answers}
-use Rattle.laws.proofs.Answering.{answers-first, answers-then}
+use Rattle.laws.specs.Answering.{_when_, Applies, turnOf, Answers}
+use Rattle.dispatcher.specs.Answers.{numberOf}
+use Rattle.dispatcher.specs.Promise.{Answered}
+use Rattle.dispatcher.specs.declared.Answer.{Answer}
 use Rattle.dispatcher.specs.declared.Dispatcher.{Dispatcher}
+use Rattle.dispatcher.proofs.Unsound.{answered-first, answered-then}
 use Rattle.tasks.specs.Named.{namedRefusals}
 
-pub named-small : {d : Dispatcher} {slot n : ℕ} → Applies (namedRefusals d slot) n → n < 6
-named-small (inl (e, _)) = omega arith
-named-small (inr (inl (e, _))) = omega arith
-named-small (inr (inr (inl (e, _)))) = omega arith
-named-small (inr (inr (inr a))) = absurd a
+-- their turns have come when that of 5 has
+pub named-turn : {d : Dispatcher} {slot : ℕ} (n : ℕ) → Applies (namedRefusals d slot) n → turnOf n ≤ turnOf 5
+named-turn n (inl (e, _)) = rw e (omega arith)
+named-turn n (inr (inl (e, _))) = rw e (omega arith)
+named-turn n (inr (inr (inl (e, _)))) = rw e (omega arith)
+named-turn n (inr (inr (inr (inl (e, _))))) = rw e (omega arith)
+named-turn n (inr (inr (inr (inr (inl (e, _)))))) = rw e (omega arith)
+named-turn n (inr (inr (inr (inr (inr (inl (e, _))))))) = rw e (omega arith)
+named-turn n (inr (inr (inr (inr (inr (inr (inl (e, _)))))))) = rw e (omega arith)
+named-turn n (inr (inr (inr (inr (inr (inr (inr a))))))) = absurd a
 
-pub named-refused : {d : Dispatcher} {slot n : ℕ} {P : Type 0} (k : ℕ) → 5 < k → Answers (namedRefusals d slot) n → n ≢ 0 → Answers (namedRefusals d slot ++ (k when P ∷ [])) n
-named-refused {d} {slot} {n} {P} k l h z = answers-first (namedRefusals d slot) (k when P ∷ []) h z above
-  where
-    above : (m : ℕ) → Applies (k when P ∷ []) m → n < m
-    above m (inl (e, _)) = let s = named-small {d = d} {slot = slot} (h .listed z) in omega arith
-    above m (inr a) = absurd a
+module _ {d : Dispatcher} {slot : ℕ} {P : Type 0} {a : Answer} (k : ℕ) (l : turnOf 5 < turnOf k) (h : Answered (namedRefusals d slot) d a) where
+  pub named-refused : numberOf a ≢ 0 → Answered (namedRefusals d slot ++ (k when P ∷ [])) d a
+  named-refused z = answered-first (namedRefusals d slot) (k when P ∷ []) h z above
+    where
+      above : (m : ℕ) → Applies (k when P ∷ []) m → turnOf (numberOf a) < turnOf m
+      above m (inl (e, _)) = let s = named-turn {d = d} {slot = slot} (numberOf a) (h .answer .listed z) in rw e (omega arith)
+      above m (inr x) = absurd x
 
-pub named-then : {d : Dispatcher} {slot n m : ℕ} {P : Type 0} (k : ℕ) → Answers (namedRefusals d slot) n → n ≡ 0 → Answers (k when P ∷ []) m → Answers (namedRefusals d slot ++ (k when P ∷ [])) m
-named-then {d} {slot} {P = P} k h z = answers-then (namedRefusals d slot) (k when P ∷ []) (rw z at h)
+  pub named-then : {b : Answer} → numberOf a ≡ 0 → Answers (k when P ∷ []) (numberOf b) → Answered (namedRefusals d slot ++ (k when P ∷ [])) d b
+  named-then z = answered-then (namedRefusals d slot) (k when P ∷ []) (rw z at (h .answer)) (omega arith, tt)

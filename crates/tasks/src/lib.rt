@@ -4,6 +4,7 @@ ghost use Prim.Native.Nat.{_<_};
 ghost use Rattle.laws.specs.Answering.{Answers};
 ghost use Rattle.dispatcher.specs.Limits.{slotLimit};
 ghost use Rattle.dispatcher.specs.Answers.{numberOf};
+ghost use Rattle.dispatcher.specs.Promise.{Answered};
 ghost use Rattle.tasks.specs.Table.{Settles};
 ghost use Rattle.tasks.specs.Named.{namedRefusals};
 ghost use Rattle.tasks.specs.Create.{entryRefusals, createRefusals, Creates};
@@ -39,20 +40,22 @@ pub fn entry(d: Dispatcher, slot: u16, priority: u8, mask: u32) -> Answer
 }
 
 fn create_answer(d: Dispatcher, slot: u16, priority: u8, mask: u32) -> Answer
-    ensures { λ r. ⌜ Answers (createRefusals d slot priority mask) (numberOf r) ⌝ }
+    ensures { λ r. ⌜ Answered (createRefusals d slot priority mask) d r ⌝ }
 {
-    if !soundness::sound(d) {
-        return Answer::NotSound;
+    let unsound = soundness::check(d);
+    if unsound.number() != 0 {
+        return unsound;
     }
     entry(d, slot, priority, mask)
 }
 
 // What every call on the task in a slot refuses first.
 pub fn named(d: Dispatcher, slot: u16) -> Answer
-    ensures { λ r. ⌜ Answers (namedRefusals d slot) (numberOf r) ⌝ }
+    ensures { λ r. ⌜ Answered (namedRefusals d slot) d r ⌝ }
 {
-    if !soundness::sound(d) {
-        return Answer::NotSound;
+    let unsound = soundness::check(d);
+    if unsound.number() != 0 {
+        return unsound;
     }
     let at = slot as usize;
     if Dispatcher::SLOTS <= at {

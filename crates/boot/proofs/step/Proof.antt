@@ -1,11 +1,7 @@
 -- `step` meets its promise: a refusal stays, and else the record is created or refused as `entry` says.
 use mathlib.Core.Path.{refl, sym, _∙_}
-use mathlib.Core.List.{[], _∷_}
 use borrow.Author.Needs.{needs}
-use Rattle.laws.specs.Answering.{_when_}
-use Rattle.laws.proofs.Answering.{answers-then, answers-none}
 use Rattle.dispatcher.proofs.Promises.{slot-below}
-use Rattle.tasks.specs.Create.{entryRefusals}
 use Rattle.boot.proofs.step.Statement.{statement}
 use Rattle.boot.proofs.step.Tie as tie
 
@@ -47,9 +43,7 @@ element-set-from-next : tie.Need-element-set-from-next
 element-set-from-next c =
     let second = c .before in
     let e = second .before .before in
-    let a = e .before .before .before .before .args in
-    slot-below (answers-then (1 when ⊥ ∷ []) (entryRefusals (a .s .dispatcher) (a .t .slot) (a .t .priority) (a .t .mask)) (answers-none 1 (λ n. n)) (e .entry .ensures))
-    (sym (second .before .number2 .ensures) ∙ second .if2 .left)
+    slot-below (e .entry .ensures) (sym (second .before .number2 .ensures) ∙ second .if2 .left)
 
 returns-3 : tie.Need-returns-3
 returns-3 c =

@@ -3,7 +3,7 @@ use mathlib.Core.Path.{_≡_, sym, _∙_}
 use native.Mathlib.Omega.{arith}
 use borrow.Author.Needs.{needs}
 use Rattle.dispatcher.specs.Answers.{numberOf}
-use Rattle.dispatcher.proofs.Promises.{slot-below}
+use Rattle.dispatcher.proofs.Promises.{called-below}
 use Rattle.deletion.proofs.Ending.{not-ready-below, not-ready-deletes, block-deletes}
 use Rattle.deletion.proofs.delete.Statement.{statement}
 use Rattle.deletion.proofs.delete.Tie as tie
@@ -33,7 +33,7 @@ returns c =
     not-ready-deletes (e .before .before .before .before .before .block .ensures) (not-ready e) (rw (c .before .still .ensures) at (c .written .ensures))
 
 written-requires-2 : tie.Need-written-requires-2
-written-requires-2 c κs = λ z. slot-below (c .before .before .before .before .before .block .ensures .answer) (omega (arith, z))
+written-requires-2 c κs = λ z. called-below (c .before .before .before .before .before .before .args .d) (c .before .before .before .before .before .block .ensures .answer) (omega (arith, z))
 
 returns-2 : tie.Need-returns-2
 returns-2 c =

@@ -1,19 +1,13 @@
 -- `record` meets its promise: the tests are those of having the record, and two pairs say its mask.
-use Prim.Native.Nat.{ℕ, _+_, _*_}
-use mathlib.Core.Path.{_≡_, refl, ap}
-use mathlib.Core.List.{List}
+use Prim.Native.Nat.{_+_}
+use mathlib.Core.Path.{refl}
 use native.Mathlib.Omega.{arith}
 use mir.Facts.{fits-widen}
 use borrow.Author.Needs.{needs}
-use Rattle.files.specs.Layout.{byte, lowestFirst, maskBytes, recordPlace}
+use Rattle.files.specs.Layout.{recordPlace}
+use Rattle.files.proofs.Sections.{four-by-two}
 use Rattle.files.proofs.record.Statement.{statement}
 use Rattle.files.proofs.record.Tie as tie
-
-mask-pairs : (b : List ℕ) (o : ℕ) → lowestFirst maskBytes b (o + 2) ≡ lowestFirst 2 b (o + 2) + 65536 * lowestFirst 2 b (o + 4)
-mask-pairs b o =
-    let third : byte b (o + 2 + 1 + 1) ≡ byte b (o + 4) = ap (byte b) (omega arith) in
-    let fourth : byte b (o + 2 + 1 + 1 + 1) ≡ byte b (o + 4 + 1) = ap (byte b) (omega arith) in
-    omega arith
 
 returns : tie.Need-returns
 returns c = search needs
@@ -72,7 +66,8 @@ add-mask c = search needs
 returns-4 : tie.Need-returns-4
 returns-4 c =
     let a = c .before .before .before .before .before .before .before .before .before .args in
-    (record { counted = omega arith; there = omega arith }, refl, refl, omega (arith, mask-pairs (a .file .now) (recordPlace (a .file .now) (a .i))))
+    let at = recordPlace (a .file .now) (a .i) in
+    (record { counted = omega arith; there = omega arith }, refl, refl, omega (arith, four-by-two (a .file .now) (at + 2) (at + 4) (omega arith)))
 
 pub record-spec : {M : Type 1} → statement M
 record-spec =

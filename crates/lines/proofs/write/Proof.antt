@@ -1,13 +1,13 @@
--- `write` meets its promise: refused for 1 or 14 it writes nothing, and else it hands the line over that it has made in its own bytes.
+-- `write` meets its promise: refused for what is unsound or for 14 it writes nothing, and else it hands the line over that it has made in its own bytes.
 use Prim.Native.Nat.{_≤_}
-use mathlib.Core.Path.{_≡_}
+use mathlib.Core.Path.{_≡_, refl, sym, _∙_}
 use native.Mathlib.Omega.{arith}
 use lib.ListN.{length, length-map}
 use borrow.Author.Needs.{needs}
-use borrow.Author.Tests.{not-true, not-false}
 use Rattle.texts.proofs.Putting.{puts-read}
 use Rattle.dispatcher.specs.Limits.{coreLimit}
 use Rattle.dispatcher.specs.Sound.{Sound}
+use Rattle.dispatcher.proofs.Unsound.{done-sound}
 use Rattle.lines.specs.Line.{textOf}
 use Rattle.lines.proofs.Longest.{Wide, line-longest}
 use Rattle.lines.proofs.Standing.{writes-unsound, writes-bad-kind, writes-handed}
@@ -20,17 +20,20 @@ wide e = record { number = omega arith; slot = omega arith; answer = omega arith
 many : (e : tie.Start) → length (e .args .d .seats) ≡ coreLimit
 many e = simp length-map at (e .good .1 .0 .1 .1 .1 .1 .1 .0 .1 .0 .1)
 
-sound : (c : tie.Else1) → Sound (c .before .before .before .args .d)
-sound c = c .before .sound .ensures .yes (not-false _ (c .if1 .left))
+sound : (c : tie.Else1) → Sound (c .before .before .before .before .args .d)
+sound c = done-sound (c .before .before .before .before .args .d) (c .before .before .check .ensures .answer) (sym (c .before .number .ensures) ∙ c .if1 .left)
 
-room : (c : tie.After-text) → length (textOf (c .before .before .before .before .before .before .before .before .args .line) (c .before .before .before .before .before .before .before .before .args .d)) ≤ 231
-room c = let e = c .before .before .before .before .before .before .before .before in line-longest (e .args .line) (e .args .d) (wide e) (sound (c .before .before .before .before .before)) (many e)
+room : (c : tie.After-text) → length (textOf (c .before .before .before .before .before .before .before .before .before .args .line) (c .before .before .before .before .before .before .before .before .before .args .d)) ≤ 231
+room c = let e = c .before .before .before .before .before .before .before .before .before in line-longest (e .args .line) (e .args .d) (wide e) (sound (c .before .before .before .before .before)) (many e)
 
-sound-requires : tie.Need-sound-requires
-sound-requires c κs = search needs
+check-requires : tie.Need-check-requires
+check-requires c κs = search needs
+
+number-requires : tie.Need-number-requires
+number-requires c κs = search needs
 
 returns : tie.Need-returns
-returns c = writes-unsound _ _ (c .before .sound .ensures .no (not-true _ (c .if1 .taken)))
+returns c = writes-unsound _ _ (c .before .before .check .ensures) (λ z. c .if1 .taken (c .before .number .ensures ∙ z)) refl
 
 returns-2 : tie.Need-returns-2
 returns-2 c = writes-bad-kind _ _ (sound (c .before .before)) (λ k. omega arith)
@@ -62,7 +65,8 @@ pub write-spec : {M : Type 1} → statement M
 write-spec =
     tie.close
     (tie.spec
-    sound-requires
+    check-requires
+    number-requires
     returns
     returns-2
     cast-cores

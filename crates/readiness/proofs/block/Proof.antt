@@ -20,7 +20,7 @@ shaped e = record {
 
 -- past the test nothing refuses the call
 granted : (e : tie.Else1) → let a = e .before .before .before .args in Answers (blockRefusals (a .d) (a .slot)) 0
-granted e = rw (sym (e .before .number .ensures) ∙ e .if1 .left) at (e .before .before .block-answer .ensures)
+granted e = rw (sym (e .before .number .ensures) ∙ e .if1 .left) at (e .before .before .block-answer .ensures .answer)
 
 block-answer-requires : tie.Need-block-answer-requires
 block-answer-requires c κs = search needs

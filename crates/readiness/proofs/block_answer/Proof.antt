@@ -23,12 +23,12 @@ is-ready-requires c κs = search needs
 returns-2 : tie.Need-returns-2
 returns-2 c =
     let passed = c .before .before in
-    named-then 10 (passed .before .before .named .ensures) (sym (passed .before .number .ensures) ∙ passed .if1 .left) (answers-one 10 (omega arith) (c .before .is-ready .ensures .no (not-true _ (c .if2 .taken))))
+    named-then 10 (omega arith) (passed .before .before .named .ensures) (sym (passed .before .number .ensures) ∙ passed .if1 .left) (answers-one 10 (omega arith) (c .before .is-ready .ensures .no (not-true _ (c .if2 .taken))))
 
 returns-3 : tie.Need-returns-3
 returns-3 c =
     let passed = c .before .before in
-    named-then 10 (passed .before .before .named .ensures) (sym (passed .before .number .ensures) ∙ passed .if1 .left) (answers-none 10 (λ off. off (c .before .is-ready .ensures .yes (not-false _ (c .if2 .left)))))
+    named-then 10 (omega arith) (passed .before .before .named .ensures) (sym (passed .before .number .ensures) ∙ passed .if1 .left) (answers-none 10 (λ off. off (c .before .is-ready .ensures .yes (not-false _ (c .if2 .left)))))
 
 pub block-answer-spec : {M : Type 1} → statement M
 block-answer-spec = tie.close (tie.spec named-requires number-requires returns is-ready-requires returns-2 returns-3)

@@ -19,7 +19,7 @@ shaped e = record {
 
 -- past the test nothing refuses the call
 granted : (e : tie.Else1) → let a = e .before .before .before .args in Answers (wakeRefusals (a .d) (a .slot)) 0
-granted e = rw (sym (e .before .number .ensures) ∙ e .if1 .left) at (e .before .before .wake-answer .ensures)
+granted e = rw (sym (e .before .number .ensures) ∙ e .if1 .left) at (e .before .before .wake-answer .ensures .answer)
 
 wake-answer-requires : tie.Need-wake-answer-requires
 wake-answer-requires c κs = search needs

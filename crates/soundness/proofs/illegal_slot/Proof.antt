@@ -36,9 +36,9 @@ returns : tie.Need-returns Inv-loop μ-loop
 returns c =
     let i = c .before .before in
     record {
-      below = i .loop-test .taken;
-      fails = λ h. let l = h (λ e. c .if2 .taken (e .1)) in omega (arith, l .priority .0, c .before .if1 .taken);
+      within = i .before .loop .inv .0;
       lower = i .before .loop .inv .1;
+      breaks = λ _ h. let l = h (λ e. c .if2 .taken (e .1)) in omega (arith, l .priority .0, c .before .if1 .taken);
     }
 
 legal-requires : tie.Need-legal-requires Inv-loop μ-loop
@@ -48,9 +48,9 @@ returns-2 : tie.Need-returns-2 Inv-loop μ-loop
 returns-2 c =
     let i = c .before .before .before in
     record {
-      below = i .loop-test .taken;
-      fails = λ h. c .before .legal .ensures .no (not-true _ (c .if3 .taken)) (h (λ e. c .before .before .if1 .left (e .0)));
+      within = i .before .loop .inv .0;
       lower = i .before .loop .inv .1;
+      breaks = λ _ h. c .before .legal .ensures .no (not-true _ (c .if3 .taken)) (h (λ e. c .before .before .if1 .left (e .0)));
     }
 
 add-s : tie.Need-add-s Inv-loop μ-loop
@@ -67,7 +67,7 @@ loop-again c = (
 )
 
 returns-3 : tie.Need-returns-3 Inv-loop μ-loop
-returns-3 c = λ j l. c .before .loop .inv .1 j (omega (arith, l, c .loop-test .left))
+returns-3 c = record { within = c .before .loop .inv .0; lower = c .before .loop .inv .1; breaks = λ l. absurd (omega (arith, l, c .loop-test .left)) }
 
 pub illegal-slot-spec : {M : Type 1} → statement M
 illegal-slot-spec =

@@ -8,6 +8,7 @@ use borrow.Author.Count.{below-more}
 use Rattle.laws.proofs.Lists.{getD-any}
 use Rattle.dispatcher.specs.Limits.{none}
 use Rattle.soundness.specs.Parts.{UnusedFrom}
+use Rattle.soundness.proofs.Finding.{finds-all}
 use Rattle.soundness.proofs.surplus.Statement.{statement}
 use Rattle.soundness.proofs.surplus.Tie as tie
 
@@ -21,7 +22,7 @@ unused-requires : tie.Need-unused-requires Inv-loop μ-loop
 unused-requires c κs = search needs
 
 returns : tie.Need-returns Inv-loop μ-loop
-returns c = c .before .unused .ensures .yes (c .if1 .taken)
+returns c = finds-all (c .before .unused .ensures .yes (c .if1 .taken))
 
 loop-holds : tie.Need-loop-holds Inv-loop μ-loop
 loop-holds c = (omega arith, λ j l m. absurd (omega arith))
@@ -38,7 +39,11 @@ read c = getD-any (c .before .before .before .before .before .args .list .now) (
 returns-2 : tie.Need-returns-2 Inv-loop μ-loop
 returns-2 c =
     let i = c .before .before in
-    record { below = i .loop-test .taken; fails = λ h. omega (arith, c .if2 .taken, read i, h (i .before .loop .inv .0)); lower = i .before .loop .inv .1 }
+    record {
+      within = omega (arith, i .loop-test .taken);
+      lower = i .before .loop .inv .1;
+      breaks = λ _ h. omega (arith, c .if2 .taken, read i, h (i .before .loop .inv .0));
+    }
 
 add-k : tie.Need-add-k Inv-loop μ-loop
 add-k c = search needs
@@ -50,7 +55,7 @@ loop-again : tie.Need-loop-again Inv-loop μ-loop
 loop-again c = let i = c .before .before in (omega arith, below-more _ _ (i .before .loop .inv .1) (λ _. omega (arith, read i, c .if2 .left)))
 
 returns-3 : tie.Need-returns-3 Inv-loop μ-loop
-returns-3 c = λ j l. c .before .loop .inv .1 j (omega (arith, l, c .loop-test .left))
+returns-3 c = finds-all (λ j l. c .before .loop .inv .1 j (omega (arith, l, c .loop-test .left)))
 
 pub surplus-spec : {M : Type 1} → statement M
 surplus-spec =

@@ -53,6 +53,18 @@ enum-told-15 c = search needs
 enum-told-16 : tie.Need-enum-told-16
 enum-told-16 c = search needs
 
+enum-told-17 : tie.Need-enum-told-17
+enum-told-17 c = search needs
+
+enum-told-18 : tie.Need-enum-told-18
+enum-told-18 c = search needs
+
+enum-told-19 : tie.Need-enum-told-19
+enum-told-19 c = search needs
+
+enum-told-20 : tie.Need-enum-told-20
+enum-told-20 c = search needs
+
 returns : tie.Need-returns
 returns c = ap numberOf (sym (c .enum-told .given .1))
 
@@ -101,5 +113,17 @@ returns-15 c = ap numberOf (sym (c .enum-told15 .given .1))
 returns-16 : tie.Need-returns-16
 returns-16 c = ap numberOf (sym (c .enum-told16 .given .1))
 
+returns-17 : tie.Need-returns-17
+returns-17 c = ap numberOf (sym (c .enum-told17 .given .1))
+
+returns-18 : tie.Need-returns-18
+returns-18 c = ap numberOf (sym (c .enum-told18 .given .1))
+
+returns-19 : tie.Need-returns-19
+returns-19 c = ap numberOf (sym (c .enum-told19 .given .1))
+
+returns-20 : tie.Need-returns-20
+returns-20 c = ap numberOf (sym (c .enum-told20 .given .1))
+
 pub number-spec : {M : Type 1} → statement M
-number-spec = tie.close (tie.spec enum-told enum-told-2 enum-told-3 enum-told-4 enum-told-5 enum-told-6 enum-told-7 enum-told-8 enum-told-9 enum-told-10 enum-told-11 enum-told-12 enum-told-13 enum-told-14 enum-told-15 enum-told-16 returns returns-2 returns-3 returns-4 returns-5 returns-6 returns-7 returns-8 returns-9 returns-10 returns-11 returns-12 returns-13 returns-14 returns-15 returns-16)
+number-spec = tie.close (tie.spec enum-told enum-told-2 enum-told-3 enum-told-4 enum-told-5 enum-told-6 enum-told-7 enum-told-8 enum-told-9 enum-told-10 enum-told-11 enum-told-12 enum-told-13 enum-told-14 enum-told-15 enum-told-16 enum-told-17 enum-told-18 enum-told-19 enum-told-20 returns returns-2 returns-3 returns-4 returns-5 returns-6 returns-7 returns-8 returns-9 returns-10 returns-11 returns-12 returns-13 returns-14 returns-15 returns-16 returns-17 returns-18 returns-19 returns-20)
