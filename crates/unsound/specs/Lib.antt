@@ -1,0 +1,2 @@
+pub mod Dump
+pub mod Judge
