@@ -5,10 +5,11 @@
  * and who sits on which core. The kernel holds the struct; every call acts on it in place. There is
  * no other state: no heap, no locks, no globals. Two calls on one dispatcher must not overlap.
  *
- * Every call checks that the dispatcher it is lent is sound, answers a number, and leaves the
- * dispatcher and all lent bytes as they stood where the number is not MAKXIRUND_DONE (only
- * makxirund_fresh always writes). Pointers must be valid: to one dispatcher, or to as many bytes or
- * records as the count beside them says; for a count of 0 any non-null, aligned pointer will do.
+ * Every call checks that the dispatcher it is lent is sound, and says where it is not; it answers a
+ * number, and leaves the dispatcher and all lent bytes as they stood where the number is not
+ * MAKXIRUND_DONE (only makxirund_fresh always writes). Pointers must be valid: to one dispatcher, or
+ * to as many bytes or records as the count beside them says; for a count of 0 any non-null, aligned
+ * pointer will do.
  *
  * Link with -lmakxirund (libmakxirund.a, x86-64, System V ABI).
  */
@@ -41,7 +42,7 @@ extern "C" {
 
 enum makxirund_number {
     MAKXIRUND_DONE = 0,
-    MAKXIRUND_NOT_SOUND = 1, /* the dispatcher is not sound: all calls that are lent one, but fresh */
+    /* 1 (not sound) is never given, for 21 to 25 say what is unsound; the number stays reserved */
     MAKXIRUND_CORE_COUNT = 2, /* core count not 1 to 32: fresh, file reader */
     MAKXIRUND_SLOT_ABOVE = 3, /* slot above 127: create, delete, wake, block, load */
     MAKXIRUND_SLOT_IN_USE = 4, /* create, load */
@@ -60,9 +61,18 @@ enum makxirund_number {
     MAKXIRUND_UNEXPECTED = 17, /* unexpected character or end: readers of core sets */
     MAKXIRUND_BACKWARD = 18, /* range that runs backward: List reader */
     MAKXIRUND_ABOVE_LIMIT = 19, /* core at or above the limit: readers and writers of core sets */
-    MAKXIRUND_OUTPUT_SHORT = 20 /* the text is longer than the buffer: writers of core sets */
+    MAKXIRUND_OUTPUT_SHORT = 20, /* the text is longer than the buffer: writers of core sets */
+    /* the dispatcher is not sound (all calls that are lent one, but fresh); below is where to look */
+    MAKXIRUND_UNSOUND_COUNT = 21, /* d->cores */
+    MAKXIRUND_UNSOUND_SLOT = 22, /* d->tasks[place] */
+    MAKXIRUND_UNSOUND_PLACE = 23, /* d->order[place] */
+    MAKXIRUND_UNSOUND_MISSING_CORE = 24, /* d->seats[place], at or above the count */
+    MAKXIRUND_UNSOUND_SEAT = 25 /* d->seats[place], below the count */
 };
-/* Where several apply the lowest is given; a file or a text is judged byte by byte from its start. */
+/*
+ * 21 to 25 are checked first, in this order; of the others the lowest is given. A file or a text is
+ * judged byte by byte from its start.
+ */
 
 /* ---- structs: 255 is MAKXIRUND_NONE ---- */
 
@@ -84,6 +94,13 @@ struct makxirund_report {
     uint8_t moves; /* how many tasks run before and after the call, on different cores */
     uint16_t started; /* the slot that started, or 255 */
     uint16_t stopped; /* the slot that was pushed off its core, or 255 */
+    uint16_t place; /* with 21 to 25 where the dispatcher is unsound; else 0 */
+};
+
+/* What the check of a dispatcher says. */
+struct makxirund_answer {
+    uint8_t number; /* 0, or 21 to 25 */
+    uint16_t place; /* with 21 to 25 where the dispatcher is unsound; else 0 */
 };
 
 /* A record of a boot list. */
@@ -95,7 +112,7 @@ struct makxirund_record {
 
 struct makxirund_load_report {
     struct makxirund_report report;
-    size_t index; /* the first refused record; 0 with number 0 or 1 */
+    size_t index; /* the first refused record; 0 with number 0 and with 21 to 25 */
 };
 
 /* What the file reader says: number 0 and the three counts, or a refusal and its offset. */
@@ -121,7 +138,7 @@ struct makxirund_file_event {
     uint16_t slot;
 };
 
-/* What a line says besides the seats. */
+/* What a line says besides the seats; a report's place is not printed. */
 struct makxirund_line {
     uint32_t number; /* the running number */
     uint8_t kind; /* 0 to 3 for create, wake, block, delete: C, W, B, D */
@@ -131,6 +148,7 @@ struct makxirund_line {
 
 struct makxirund_written {
     uint8_t number;
+    uint16_t place; /* with 21 to 25 where the dispatcher is unsound; else 0 */
     size_t length; /* the bytes written, a line's newline included; 0 where refused */
 };
 
@@ -156,17 +174,21 @@ MAKXIRUND_AT(makxirund_dispatcher, cores, 0, 1);
 MAKXIRUND_AT(makxirund_dispatcher, tasks, 4, 1024);
 MAKXIRUND_AT(makxirund_dispatcher, order, 1028, 256);
 MAKXIRUND_AT(makxirund_dispatcher, seats, 1284, 64);
-MAKXIRUND_SIZE(makxirund_report, 6);
+MAKXIRUND_SIZE(makxirund_report, 8);
 MAKXIRUND_AT(makxirund_report, number, 0, 1);
 MAKXIRUND_AT(makxirund_report, moves, 1, 1);
 MAKXIRUND_AT(makxirund_report, started, 2, 2);
 MAKXIRUND_AT(makxirund_report, stopped, 4, 2);
+MAKXIRUND_AT(makxirund_report, place, 6, 2);
+MAKXIRUND_SIZE(makxirund_answer, 4);
+MAKXIRUND_AT(makxirund_answer, number, 0, 1);
+MAKXIRUND_AT(makxirund_answer, place, 2, 2);
 MAKXIRUND_SIZE(makxirund_record, 8);
 MAKXIRUND_AT(makxirund_record, slot, 0, 2);
 MAKXIRUND_AT(makxirund_record, priority, 2, 1);
 MAKXIRUND_AT(makxirund_record, mask, 4, 4);
 MAKXIRUND_SIZE(makxirund_load_report, 16);
-MAKXIRUND_AT(makxirund_load_report, report, 0, 6);
+MAKXIRUND_AT(makxirund_load_report, report, 0, 8);
 MAKXIRUND_AT(makxirund_load_report, index, 8, 8);
 MAKXIRUND_SIZE(makxirund_layout, 32);
 MAKXIRUND_AT(makxirund_layout, number, 0, 1);
@@ -187,14 +209,43 @@ MAKXIRUND_SIZE(makxirund_line, 16);
 MAKXIRUND_AT(makxirund_line, number, 0, 4);
 MAKXIRUND_AT(makxirund_line, kind, 4, 1);
 MAKXIRUND_AT(makxirund_line, slot, 6, 2);
-MAKXIRUND_AT(makxirund_line, report, 8, 6);
+MAKXIRUND_AT(makxirund_line, report, 8, 8);
 MAKXIRUND_SIZE(makxirund_written, 16);
 MAKXIRUND_AT(makxirund_written, number, 0, 1);
+MAKXIRUND_AT(makxirund_written, place, 2, 2);
 MAKXIRUND_AT(makxirund_written, length, 8, 8);
 MAKXIRUND_SIZE(makxirund_reading, 24);
 MAKXIRUND_AT(makxirund_reading, number, 0, 1);
 MAKXIRUND_AT(makxirund_reading, offset, 8, 8);
 MAKXIRUND_AT(makxirund_reading, set, 16, 8);
+
+/* ---- what is unsound, and where it stands in a dump of the dispatcher ---- */
+
+/*
+ * With 21 to 25 comes a place, and the two name one word of the dispatcher; with every other number
+ * the place is 0. Slots, places of the wake order, cores and the bytes of the dispatcher count from
+ * 0, and a word's lowest byte stands first. Of several words that are wrong for one number the lowest
+ * place is given. A slot is used where its priority and its mask are not both 0.
+ *
+ * 21  d->cores, at byte 0. The place is the count found there.
+ *     Wrong: it is not 1 to 32.
+ *
+ * 22  d->tasks[place], at byte 4 + 8 * place: the priority there, the mask four bytes on.
+ *     Wrong: the slot is used, and its priority is 0, or its mask is 0 or names a core at or above
+ *     d->cores.
+ *
+ * 23  d->order[place], at byte 1028 + 2 * place.
+ *     Wrong: it is not 255, and either it is no used slot (but an empty one, or above 127), or it
+ *     stands at an earlier place too (of two equal entries the later one is named), or an earlier
+ *     place holds 255 (for a gap the next place is named that does not hold 255).
+ *
+ * 24  d->seats[place], at byte 1284 + 2 * place, of a core at or above d->cores.
+ *     Wrong: it is not 255.
+ *
+ * 25  d->seats[place], at byte 1284 + 2 * place, of a core below d->cores.
+ *     Wrong: it is not 255, and either it is no slot of the wake order, or it sits on a lower core
+ *     too (of the two cores the higher one is named), or its mask has no bit for this core.
+ */
 
 /* ---- calls on the dispatcher that the kernel holds ---- */
 
@@ -204,7 +255,7 @@ MAKXIRUND_AT(makxirund_reading, set, 16, 8);
  */
 struct makxirund_report makxirund_fresh(struct makxirund_dispatcher *d, uint8_t cores);
 
-/* Fills an empty slot with a task that is not ready. Refused: 1, 3, 4, 6, 7, 8. */
+/* Fills an empty slot with a task that is not ready. Refused: 21 to 25, 3, 4, 6, 7, 8. */
 struct makxirund_report makxirund_create(
     struct makxirund_dispatcher *d, uint16_t slot, uint8_t priority, uint32_t mask);
 
@@ -212,31 +263,33 @@ struct makxirund_report makxirund_create(
  * Empties the slot, which may be used again at once. If the task is ready, this does first what
  * makxirund_block does, and reports as it does: moves and started are those of the refill of its core,
  * and stopped is 255, for the deleted task does not count as stopped. If the task waited or was not
- * ready, nobody moves or starts. Refused: 1, 3, 5.
+ * ready, nobody moves or starts. Refused: 21 to 25, 3, 5.
  */
 struct makxirund_report makxirund_delete(struct makxirund_dispatcher *d, uint16_t slot);
 
 /*
  * The task becomes ready, last among its equals, and seeks a core: running tasks are shifted along a
- * chain of cores to an idle one, or to that of a less urgent task, which stops. Refused: 1, 3, 5, 9.
+ * chain of cores to an idle one, or to that of a less urgent task, which stops.
+ * Refused: 21 to 25, 3, 5, 9.
  */
 struct makxirund_report makxirund_wake(struct makxirund_dispatcher *d, uint16_t slot);
 
 /*
  * The task is no longer ready. If it ran, the waiting task that comes first of those that reach its
- * core starts, by a chain of shifts. Refused: 1, 3, 5, 10.
+ * core starts, by a chain of shifts. Refused: 21 to 25, 3, 5, 10.
  */
 struct makxirund_report makxirund_block(struct makxirund_dispatcher *d, uint16_t slot);
 
 /*
- * Creates all records in order, or none. Refused: 1 with index 0, or 3, 4, 6, 7, 8 with the index of
- * the first refused record; a slot named twice is 4 at its second place. No records: done.
+ * Creates all records in order, or none. Refused: 21 to 25 with index 0 and the place in the report,
+ * or 3, 4, 6, 7, 8 with the index of the first refused record; a slot named twice is 4 where it is
+ * named again. No records: done, or 21 to 25.
  */
 struct makxirund_load_report makxirund_load(
     struct makxirund_dispatcher *d, const struct makxirund_record *records, size_t count);
 
-/* 0 where the dispatcher is sound, else 1. */
-uint8_t makxirund_sound(const struct makxirund_dispatcher *d);
+/* Number 0 where the dispatcher is sound, else 21 to 25 and the place, as every call gives them. */
+struct makxirund_answer makxirund_sound(const struct makxirund_dispatcher *d);
 
 /* ---- event files ---- */
 
@@ -256,7 +309,7 @@ struct makxirund_file_event makxirund_event(const uint8_t *file, size_t length, 
 /*
  * Writes one line, with the seats of *d, to the buffer's start: running number; C, W, B or D; slot;
  * answer; moves; started; stopped; for each core the slot or `-`. Prints the numbers it is given.
- * Refused: 1, 14, 15; then no byte changes.
+ * Refused: 21 to 25, 14, 15; then no byte changes.
  */
 struct makxirund_written makxirund_line(
     struct makxirund_line line, const struct makxirund_dispatcher *d, uint8_t *buffer, size_t room);

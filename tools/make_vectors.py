@@ -1,11 +1,13 @@
 #!/usr/bin/env python3
-"""Write the vectors of crates/vectors, or compare them with what is stored.
+"""Write the vectors of crates/vectors and crates/unsound, or compare them with what is stored.
 
-    python3 tools/make_vectors.py            writes data/NAME.day, data/NAME.lines, args, stdout
+    python3 tools/make_vectors.py            writes data/, args, stdout of both
     python3 tools/make_vectors.py --check    writes nothing; exit status 1 on a difference
 
-What must be printed comes from tools/reference.py, never from the program
-under test. The same bytes come out each time.
+crates/vectors has for each vector data/NAME.day, an event file, and data/NAME.lines, what must be
+printed; crates/unsound has data/NAME.dump, a dispatcher as it stands in memory, and in stdout its
+number and place. What must be said comes from tools/reference.py and tools/unsound.py, never from the
+program under test. The same bytes come out each time.
 """
 
 import argparse
@@ -15,10 +17,11 @@ from pathlib import Path
 
 sys.dont_write_bytecode = True
 
-from days import all_vectors
+import days
+import unsound
 from reference import printed
 
-FOLDER = Path(__file__).resolve().parent.parent / "crates" / "vectors"
+CRATES = Path(__file__).resolve().parent.parent / "crates"
 NAME = re.compile("[a-z0-9]+(-[a-z0-9]+)*")
 
 
@@ -38,10 +41,8 @@ def lines_of(vector):
     return text
 
 
-def all_files():
-    """Path within the folder, and bytes, of everything that is stored."""
-    vectors = all_vectors()
-    check_names(vectors)
+def files_of_days(vectors):
+    """Path within the crate's folder, and bytes, of everything that is stored."""
     files = {}
     for vector in vectors:
         files[f"data/{vector.name}.day"] = vector.data
@@ -51,26 +52,39 @@ def all_files():
     return files
 
 
-def stored_paths():
-    return {f"data/{path.name}" for path in (FOLDER / "data").glob("*")}
+def files_of_dumps(vectors):
+    """The same; the answers are those worked out by hand, which the definition must give too."""
+    files = {}
+    for vector in vectors:
+        image = unsound.image_of(vector)
+        if unsound.unsound(image) != (vector.number, vector.place):
+            sys.exit(f"{vector.name}: by the definition {unsound.unsound(image)}")
+        files[f"data/{vector.name}.dump"] = image.dump()
+    files["args"] = "".join(f"{vector.name}.dump\n" for vector in vectors).encode()
+    files["stdout"] = "".join(f"{vector.name}.dump {vector.number} {vector.place}\n" for vector in vectors).encode()
+    return files
 
 
-def write(files):
-    (FOLDER / "data").mkdir(parents=True, exist_ok=True)
-    for path in stored_paths() - set(files):
-        (FOLDER / path).unlink()
+def stored_paths(folder):
+    return {f"data/{path.name}" for path in (folder / "data").glob("*")}
+
+
+def write(folder, files):
+    (folder / "data").mkdir(parents=True, exist_ok=True)
+    for path in stored_paths(folder) - set(files):
+        (folder / path).unlink()
     for path, data in files.items():
-        (FOLDER / path).write_bytes(data)
+        (folder / path).write_bytes(data)
 
 
-def differences(files):
+def differences(folder, files):
     """What is missing, different or not a vector's, in words."""
-    found = [f"{path}: not a file of any vector" for path in sorted(stored_paths() - set(files))]
+    found = [f"{folder.name}/{path}: not a file of any vector" for path in sorted(stored_paths(folder) - set(files))]
     for path, data in files.items():
-        if not (FOLDER / path).is_file():
-            found.append(f"{path}: missing")
-        elif (FOLDER / path).read_bytes() != data:
-            found.append(f"{path}: differs")
+        if not (folder / path).is_file():
+            found.append(f"{folder.name}/{path}: missing")
+        elif (folder / path).read_bytes() != data:
+            found.append(f"{folder.name}/{path}: differs")
     return found
 
 
@@ -78,16 +92,22 @@ def main():
     parser = argparse.ArgumentParser(description="Write or compare the vectors.")
     parser.add_argument("--check", action="store_true", help="compare with what is stored")
     arguments = parser.parse_args()
-    files = all_files()
-    if arguments.check:
-        found = differences(files)
-        if found:
-            sys.exit("\n".join(found))
-    else:
-        write(files)
-    count = (len(files) - 2) // 2
-    size = sum(len(data) for data in files.values())
-    print(f"{count} vectors, {size:,} bytes, {'as stored' if arguments.check else 'written'}")
+    found = []
+    for name, vectors, files_of in (
+        ("vectors", days.all_vectors(), files_of_days),
+        ("unsound", unsound.all_vectors(), files_of_dumps),
+    ):
+        check_names(vectors)
+        files = files_of(vectors)
+        if arguments.check:
+            found += differences(CRATES / name, files)
+        else:
+            write(CRATES / name, files)
+        size = sum(len(data) for data in files.values())
+        print(f"crates/{name}: {len(vectors)} vectors, {size:,} bytes")
+    if found:
+        sys.exit("\n".join(found))
+    print("as stored" if arguments.check else "written")
 
 
 if __name__ == "__main__":

@@ -3,56 +3,28 @@
  * against the library, each field written on one side and read on the other, and core sets read and
  * written against their texts. Ends with status 1 at the first difference.
  */
-#include <stdio.h>
-#include <stdlib.h>
-#include <string.h>
-
-#include "makxirund.h"
-
-#define COUNT(a) (sizeof(a) / sizeof((a)[0]))
-
-static void expect(int holds, const char *what, int line)
-{
-    if (!holds) {
-        fprintf(stderr, "listing.c:%d: %s does not hold\n", line, what);
-        exit(1);
-    }
-}
-
-#define EXPECT(what) expect(what, #what, __LINE__)
-
-/* Room around the dispatcher, so that a library with another idea of its size is caught, not crashed by. */
-#define MARGIN 4096
-#define PATTERN 0xA5
-
-static union {
-    unsigned char bytes[MARGIN + sizeof(struct makxirund_dispatcher) + MARGIN];
-    max_align_t aligned;
-} room;
-
-static struct makxirund_dispatcher *lend(void)
-{
-    memset(room.bytes, PATTERN, sizeof room.bytes);
-    return (struct makxirund_dispatcher *)(room.bytes + MARGIN);
-}
-
-static int margins_kept(void)
-{
-    for (size_t i = 0; i < MARGIN; i++) {
-        if (room.bytes[i] != PATTERN || room.bytes[MARGIN + sizeof(struct makxirund_dispatcher) + i] != PATTERN)
-            return 0;
-    }
-    return 1;
-}
+#include "lent.h"
 
 static int same_report(struct makxirund_report r, unsigned number, unsigned moves, unsigned started, unsigned stopped)
 {
-    return r.number == number && r.moves == moves && r.started == started && r.stopped == stopped;
+    return r.number == number && r.moves == moves && r.started == started && r.stopped == stopped && r.place == 0;
 }
 
 static int quiet(struct makxirund_report r, unsigned number)
 {
     return same_report(r, number, 0, MAKXIRUND_NONE, MAKXIRUND_NONE);
+}
+
+static int refused_at(struct makxirund_report r, unsigned number, unsigned place)
+{
+    const unsigned found = r.place;
+    r.place = 0;
+    return quiet(r, number) && found == place;
+}
+
+static int sound_at(struct makxirund_answer a, unsigned number, unsigned place)
+{
+    return a.number == number && a.place == place;
 }
 
 /* ---- the header's structs against the library ---- */
@@ -79,7 +51,7 @@ static void check_dispatcher(void)
     d = lend();
     EXPECT(quiet(makxirund_fresh(d, 32), MAKXIRUND_DONE));
     EXPECT(d->cores == 32 && all_empty(d) && margins_kept());
-    EXPECT(makxirund_sound(d) == MAKXIRUND_DONE);
+    EXPECT(sound_at(makxirund_sound(d), MAKXIRUND_DONE, 0));
 
     /* the last slot and the last core lie where the header says */
     EXPECT(quiet(makxirund_create(d, 127, 200, 0x80000000u), MAKXIRUND_DONE));
@@ -88,28 +60,50 @@ static void check_dispatcher(void)
     EXPECT(d->order[0] == 127 && d->order[1] == MAKXIRUND_NONE && d->seats[31] == 127 && d->seats[0] == MAKXIRUND_NONE);
     EXPECT(margins_kept());
 
-    /* what C writes the library reads */
-    d->order[127] = 7;
-    EXPECT(makxirund_sound(d) == MAKXIRUND_NOT_SOUND);
-    d->order[127] = MAKXIRUND_NONE;
-    d->seats[30] = 127;
-    EXPECT(makxirund_sound(d) == MAKXIRUND_NOT_SOUND);
-    d->seats[30] = MAKXIRUND_NONE;
-    d->tasks[0].mask = 1;
-    EXPECT(makxirund_sound(d) == MAKXIRUND_NOT_SOUND);
-    d->tasks[0].priority = 1;
-    EXPECT(makxirund_sound(d) == MAKXIRUND_DONE);
-    d->cores = 31;
-    EXPECT(makxirund_sound(d) == MAKXIRUND_NOT_SOUND);
-    EXPECT(quiet(makxirund_block(d, 127), MAKXIRUND_NOT_SOUND));
-    d->cores = 32;
-
     /* each argument arrives whole */
     EXPECT(quiet(makxirund_wake(d, 383), MAKXIRUND_SLOT_ABOVE)); /* 383 is 127 but for the high byte */
     EXPECT(quiet(makxirund_block(d, 127), MAKXIRUND_DONE));
     EXPECT(quiet(makxirund_delete(d, 127), MAKXIRUND_DONE));
     EXPECT(d->tasks[127].priority == 0 && d->tasks[127].mask == 0);
-    EXPECT(makxirund_sound(d) == MAKXIRUND_DONE && margins_kept());
+    EXPECT(sound_at(makxirund_sound(d), MAKXIRUND_DONE, 0) && margins_kept());
+}
+
+/* What C writes the library reads, and names: slot 127 runs on core 31 of 32, and slot 5 sleeps. */
+static void check_unsound(void)
+{
+    struct makxirund_dispatcher *d = lend();
+    makxirund_fresh(d, 32);
+    makxirund_create(d, 127, 200, 0x80000000u);
+    makxirund_create(d, 5, 1, 1);
+    makxirund_wake(d, 127);
+    const struct makxirund_dispatcher before = *d;
+
+    d->seats[30] = 5;
+    EXPECT(sound_at(makxirund_sound(d), MAKXIRUND_UNSOUND_SEAT, 30));
+    d->order[126] = 5;
+    EXPECT(sound_at(makxirund_sound(d), MAKXIRUND_UNSOUND_PLACE, 126));
+    d->tasks[126].mask = 1;
+    EXPECT(sound_at(makxirund_sound(d), MAKXIRUND_UNSOUND_SLOT, 126));
+    d->cores = 255;
+    EXPECT(sound_at(makxirund_sound(d), MAKXIRUND_UNSOUND_COUNT, 255));
+
+    *d = before;
+    d->cores = 31;
+    d->tasks[127].mask = 1;
+    EXPECT(sound_at(makxirund_sound(d), MAKXIRUND_UNSOUND_MISSING_CORE, 31));
+
+    /* as does every call, before all other refusals */
+    const struct makxirund_record record = {6, 0, 0};
+    EXPECT(refused_at(makxirund_create(d, 999, 0, 0), MAKXIRUND_UNSOUND_MISSING_CORE, 31));
+    EXPECT(refused_at(makxirund_delete(d, 999), MAKXIRUND_UNSOUND_MISSING_CORE, 31));
+    EXPECT(refused_at(makxirund_wake(d, 999), MAKXIRUND_UNSOUND_MISSING_CORE, 31));
+    EXPECT(refused_at(makxirund_block(d, 999), MAKXIRUND_UNSOUND_MISSING_CORE, 31));
+    const struct makxirund_load_report r = makxirund_load(d, &record, 1);
+    EXPECT(refused_at(r.report, MAKXIRUND_UNSOUND_MISSING_CORE, 31) && r.index == 0);
+    const struct makxirund_line line = {1, 9, 0, {0, 0, 0, 0, 0}};
+    const struct makxirund_written w = makxirund_line(line, d, (uint8_t[1]){0}, 0);
+    EXPECT(w.number == MAKXIRUND_UNSOUND_MISSING_CORE && w.place == 31 && w.length == 0);
+    EXPECT(margins_kept());
 }
 
 /* Slot 7 runs on core 1 and slot 8 on core 0; slot 9 waits, for core 0 alone. */
@@ -158,7 +152,13 @@ static void check_load(void)
 
 static int same_text(struct makxirund_written w, const uint8_t *buffer, const char *text)
 {
-    return w.number == MAKXIRUND_DONE && w.length == strlen(text) && memcmp(buffer, text, w.length) == 0;
+    return w.number == MAKXIRUND_DONE && w.place == 0 && w.length == strlen(text)
+        && memcmp(buffer, text, w.length) == 0;
+}
+
+static int unwritten(struct makxirund_written w, unsigned number)
+{
+    return w.number == number && w.place == 0 && w.length == 0;
 }
 
 static void check_lines(void)
@@ -169,20 +169,19 @@ static void check_lines(void)
     makxirund_create(d, 101, 1, 2);
     makxirund_wake(d, 101);
 
-    struct makxirund_line line = {4000000000u, 3, 65535, {201, 102, 65534, 300}};
+    struct makxirund_line line = {4000000000u, 3, 65535, {201, 102, 65534, 300, 400}};
     const char *text = "4000000000 D 65535 201 102 65534 300 -,101\n";
     memset(buffer, PATTERN, sizeof buffer);
     EXPECT(same_text(makxirund_line(line, d, buffer, strlen(text)), buffer, text));
     EXPECT(buffer[strlen(text)] == PATTERN);
-    struct makxirund_written w = makxirund_line(line, d, buffer, strlen(text) - 1);
-    EXPECT(w.number == MAKXIRUND_LINE_LONG && w.length == 0);
+    EXPECT(unwritten(makxirund_line(line, d, buffer, strlen(text) - 1), MAKXIRUND_LINE_LONG));
     line.kind = 4;
-    w = makxirund_line(line, d, buffer, sizeof buffer);
-    EXPECT(w.number == MAKXIRUND_BAD_KIND && w.length == 0);
+    EXPECT(unwritten(makxirund_line(line, d, buffer, sizeof buffer), MAKXIRUND_BAD_KIND));
 
     text = "refused 255 at 18446744073709551615\n";
     EXPECT(strlen(text) == MAKXIRUND_LONGEST_FAULT);
     EXPECT(same_text(makxirund_fault(255, SIZE_MAX, buffer, sizeof buffer), buffer, text));
+    EXPECT(unwritten(makxirund_fault(255, SIZE_MAX, buffer, strlen(text) - 1), MAKXIRUND_LINE_LONG));
     EXPECT(margins_kept());
 }
 
@@ -236,14 +235,6 @@ static void check_set_readers(void)
 
 typedef struct makxirund_written writer(uint64_t set, uint8_t limit, uint8_t *buffer, size_t room);
 
-/* The buffer's bytes from a place on are as they were lent. */
-static int kept_from(const uint8_t *buffer, size_t size, size_t place)
-{
-    while (place < size && buffer[place] == PATTERN)
-        place++;
-    return place == size;
-}
-
 /* The text with room to spare and with none, and refused with one byte less. */
 static void check_set_text(writer *write, uint64_t set, uint8_t limit, const char *text)
 {
@@ -257,8 +248,7 @@ static void check_set_text(writer *write, uint64_t set, uint8_t limit, const cha
     if (length == 0)
         return;
     memset(buffer, PATTERN, sizeof buffer);
-    const struct makxirund_written w = write(set, limit, buffer, length - 1);
-    EXPECT(w.number == MAKXIRUND_OUTPUT_SHORT && w.length == 0);
+    EXPECT(unwritten(write(set, limit, buffer, length - 1), MAKXIRUND_OUTPUT_SHORT));
     EXPECT(kept_from(buffer, sizeof buffer, 0));
 }
 
@@ -268,8 +258,7 @@ static void check_set_above(writer *write)
     uint8_t buffer[MAKXIRUND_LIST_ROOM];
     memset(buffer, PATTERN, sizeof buffer);
     for (size_t room = 0; room <= sizeof buffer; room++) {
-        const struct makxirund_written w = write(0x100000000u, 32, buffer, room);
-        EXPECT(w.number == MAKXIRUND_ABOVE_LIMIT && w.length == 0);
+        EXPECT(unwritten(write(0x100000000u, 32, buffer, room), MAKXIRUND_ABOVE_LIMIT));
         EXPECT(kept_from(buffer, sizeof buffer, 0));
     }
 }
@@ -352,6 +341,7 @@ static void replay_listing(void)
 int main(void)
 {
     check_dispatcher();
+    check_unsound();
     check_delete();
     check_load();
     check_lines();

@@ -4,12 +4,17 @@
 
 mod core_sets;
 
+use std::collections::BTreeMap;
 use std::fmt;
 
-use crate::layout::{Dispatcher, Line, LoadReport, Report, TaskRecord, CORES, EVENTS, NONE, SLOTS};
+use crate::layout::{
+    answer, Answer, Dispatcher, Line, LoadReport, Report, TaskRecord, CORES, EVENTS, NONE, SLOTS,
+};
 use crate::paper;
 use crate::random::Random;
-use crate::states::{damage, full_mask, random_pattern, random_sound, Masks, Priorities};
+use crate::states::{
+    damage, full_mask, mend, random_pattern, random_sound, ready_count, Masks, Priorities,
+};
 
 /// The kinds of calls, in the order in which they are counted.
 const KINDS: [&str; 16] = [
@@ -50,16 +55,16 @@ const WRITE_MASK: usize = 15;
 /// The answers that the paper lets each of the kinds give; for record and event 1 is: not found.
 const ANSWERS: [&[u8]; KINDS.len()] = [
     &[0, 2],
-    &[0, 1, 3, 4, 6, 7, 8],
-    &[0, 1, 3, 5],
-    &[0, 1, 3, 5, 9],
-    &[0, 1, 3, 5, 10],
-    &[0, 1, 3, 4, 6, 7, 8],
-    &[0, 1],
+    &[0, 3, 4, 6, 7, 8, 21, 22, 23, 24, 25],
+    &[0, 3, 5, 21, 22, 23, 24, 25],
+    &[0, 3, 5, 9, 21, 22, 23, 24, 25],
+    &[0, 3, 5, 10, 21, 22, 23, 24, 25],
+    &[0, 3, 4, 6, 7, 8, 21, 22, 23, 24, 25],
+    &[0, 21, 22, 23, 24, 25],
     &[0, 2, 12, 13, 14, 16],
     &[0, 1],
     &[0, 1],
-    &[0, 1, 14, 15],
+    &[0, 14, 15, 21, 22, 23, 24, 25],
     &[0, 15],
     &[0, 17, 18, 19],
     &[0, 17, 19],
@@ -83,14 +88,25 @@ const BY_SHIFTS: usize = 4;
 
 /// Where the ends of each kind begin: a block of a task that is not ready is refused.
 const ENDING: [(usize, usize); 2] = [(BLOCK, WAITING), (DELETE, NOT_READY)];
-/// Each of these ends must come up at least once in so many calls.
+
+/// The answers to an unsound dispatcher, with what their place can be and how many of these there are.
+const UNSOUND: [(u8, &str, usize); 5] = [
+    (answer::UNSOUND_COUNT, "counts", 224),
+    (answer::UNSOUND_SLOT, "slots", 128),
+    (answer::UNSOUND_PLACE, "places", 128),
+    (answer::UNSOUND_MISSING_CORE, "missing cores", 31),
+    (answer::UNSOUND_SEAT, "cores", 32),
+];
+
+/// Each of these ends, and each of these answers in each kind of call, must come up at least once in
+/// so many calls.
 const OFTEN: u64 = 500;
 
 /// What a run has met.
 #[derive(Default)]
 pub struct Coverage {
     /// Calls by kind and answer; a record or event that is not found counts as answer 1.
-    answers: [[u64; 21]; KINDS.len()],
+    answers: [[u64; 26]; KINDS.len()],
     /// Accepted blocks and deletes by end.
     ends: [[u64; ENDS.len()]; KINDS.len()],
     /// Calls on dispatchers of 1 to 32 cores, and on those with another count.
@@ -99,7 +115,11 @@ pub struct Coverage {
     sequences: u64,
     direct: u64,
     damaged: u64,
-    unsound: u64,
+    /// Damaged states for which each of the `UNSOUND` numbers was given, by place.
+    unsound: [BTreeMap<u16, u64>; UNSOUND.len()],
+    /// The words that were mended until these states were sound, and the most in one of them.
+    mended: u64,
+    most_mended: u64,
     unreachable: u64,
     strong_checks: u64,
     most_ready: usize,
@@ -137,6 +157,18 @@ impl Coverage {
                 if self.ends[kind][end] * OFTEN < self.calls() {
                     unmet.push(format!("{}: {}", KINDS[kind], ENDS[end]));
                 }
+            }
+        }
+        for ((number, sort, all), places) in UNSOUND.iter().zip(&self.unsound) {
+            for (kind, numbers) in ANSWERS.iter().enumerate() {
+                let given = self.answers[kind][usize::from(*number)];
+                if numbers.contains(number) && given * OFTEN < self.calls() {
+                    unmet.push(format!("{}: answer {number} often", KINDS[kind]));
+                }
+            }
+            // A short run does not come to all of them.
+            if 2 * places.len() < *all {
+                unmet.push(format!("answer {number}: half of all {sort}"));
             }
         }
         unmet
@@ -182,8 +214,19 @@ impl fmt::Display for Coverage {
         )?;
         writeln!(
             f,
-            "{} states built directly, {} damaged; {} unsound, {} sound that no sequence gives",
-            self.direct, self.damaged, self.unsound, self.unreachable
+            "{} states built directly, {} damaged; {} sound ones that no sequence gives",
+            self.direct, self.damaged, self.unreachable
+        )?;
+        write!(f, "unsound, by answer:")?;
+        for ((number, sort, all), places) in UNSOUND.iter().zip(&self.unsound) {
+            let states: u64 = places.values().sum();
+            write!(f, " {number}:{states} ({} of {all} {sort})", places.len())?;
+        }
+        writeln!(f)?;
+        writeln!(
+            f,
+            "mended word by word as the answers name them: {} words, at most {} in one state",
+            self.mended, self.most_mended
         )?;
         writeln!(
             f,
@@ -410,15 +453,14 @@ impl Run {
             damage(&mut self.random, &mut d);
             d
         };
-        if paper::sound(&d) != 0 {
-            self.seen.unsound += 1;
-        } else if !strong(&d) {
-            self.seen.unreachable += 1;
-        }
         let masks = Masks::draw(&mut self.random);
         let priorities = Priorities::draw(&mut self.random);
         let mut pair = Pair::of(d);
-        self.sound(&pair);
+        let answer = self.sound(&pair);
+        match UNSOUND.iter().position(|row| row.0 == answer.number) {
+            Some(row) => *self.seen.unsound[row].entry(answer.place).or_default() += 1,
+            None => self.seen.unreachable += u64::from(!strong(&pair.paper)),
+        }
         let calls = [
             Call::Wake(self.slot_to_wake(&pair.paper)),
             Call::Block(self.slot_to_block(&pair.paper)),
@@ -429,8 +471,33 @@ impl Run {
         for call in calls {
             self.apply(&mut pair, call);
         }
-        self.sound(&pair);
         self.line(&pair);
+        self.mend(&mut pair, cores as u8);
+    }
+
+    /// Mends the word that the answer names until the dispatcher is sound. The answers come in the
+    /// order of the conditions, and to each condition the lowest place first.
+    fn mend(&mut self, pair: &mut Pair, cores: u8) {
+        let mut last = (0, 0);
+        let mut words = 0;
+        loop {
+            let answer = self.sound(pair);
+            if answer == Answer::SOUND {
+                break;
+            }
+            let next = (answer.number, answer.place);
+            assert!(
+                last < next,
+                "{next:?} after {last:?}{}",
+                self.told(&pair.paper)
+            );
+            mend(&mut pair.library, answer, cores);
+            mend(&mut pair.paper, answer, cores);
+            last = next;
+            words += 1;
+        }
+        self.seen.mended += words;
+        self.seen.most_mended = self.seen.most_mended.max(words);
     }
 
     fn loads(&mut self, cores: usize) {
@@ -499,8 +566,12 @@ impl Run {
             );
         }
 
-        if number != 0 {
-            assert!(pair.paper == before && expected.report == Report::plain(number));
+        let refused = match paper::sound(&before) {
+            Answer::SOUND => Report::plain(number),
+            answer => Report::unsound(answer),
+        };
+        if refused.number != 0 {
+            assert!(pair.paper == before && expected.report == refused);
         }
         self.seen.count(kind, number);
         let below = usize::from(before.cores).wrapping_sub(1);
@@ -591,14 +662,15 @@ impl Run {
         self.seen.count(FRESH, expected.number);
     }
 
-    fn sound(&mut self, pair: &Pair) {
+    fn sound(&mut self, pair: &Pair) -> Answer {
         let (got, expected) = (pair.library.sound(), paper::sound(&pair.paper));
         assert!(
             got == expected && pair.same(),
-            "sound: library {got}, paper {expected}{}",
+            "sound: library {got:?}, paper {expected:?}{}",
             self.told(&pair.paper)
         );
-        self.seen.count(SOUND, expected);
+        self.seen.count(SOUND, expected.number);
+        expected
     }
 
     /// One line into buffers of several sizes around the one that is needed.
@@ -644,6 +716,8 @@ impl Run {
                 moves: random.pick(&[0, 1, 9, 10, 31, 99, 100, 255]),
                 started: odd_slot(random),
                 stopped: odd_slot(random),
+                // No line has it.
+                place: random.word() as u16,
             },
         }
     }
@@ -917,13 +991,6 @@ fn odd_slot(random: &mut Random) -> u16 {
 fn missing_bits(random: &mut Random, cores: usize) -> u32 {
     let next = 1u32.checked_shl(cores as u32).unwrap_or(0);
     random.pick(&[next, !full_mask(cores), 1 << 31 & !full_mask(cores)])
-}
-
-fn ready_count(d: &Dispatcher) -> usize {
-    d.order
-        .iter()
-        .position(|&slot| slot == NONE)
-        .unwrap_or(SLOTS)
 }
 
 /// The cores below the count on which the slot (or nobody) sits.

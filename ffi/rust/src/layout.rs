@@ -21,7 +21,7 @@ pub const MASK_ROOM: usize = 17;
 /// The paper's answer numbers.
 pub mod answer {
     pub const DONE: u8 = 0;
-    pub const UNSOUND: u8 = 1;
+    // 1 is never given, and its number stays unused: 21 to 25 stand for it.
     pub const CORE_COUNT: u8 = 2;
     pub const SLOT_ABOVE: u8 = 3;
     pub const SLOT_IN_USE: u8 = 4;
@@ -41,6 +41,11 @@ pub mod answer {
     pub const BACKWARD: u8 = 18;
     pub const ABOVE_LIMIT: u8 = 19;
     pub const OUTPUT_SHORT: u8 = 20;
+    pub const UNSOUND_COUNT: u8 = 21;
+    pub const UNSOUND_SLOT: u8 = 22;
+    pub const UNSOUND_PLACE: u8 = 23;
+    pub const UNSOUND_MISSING_CORE: u8 = 24;
+    pub const UNSOUND_SEAT: u8 = 25;
 }
 
 /// One slot of the task table; empty when both fields are 0.
@@ -85,7 +90,24 @@ impl Dispatcher {
     }
 }
 
-/// What a call did; `NONE` where nobody started or stopped.
+/// What the check of a dispatcher says: with a number from 21 to 25 the place is the count found, or
+/// the slot, the place of the wake order or the core that is wrong; else it is 0.
+#[repr(C)]
+#[derive(Debug, Clone, Copy, PartialEq, Eq)]
+pub struct Answer {
+    pub number: u8,
+    pub place: u16,
+}
+
+impl Answer {
+    pub const SOUND: Answer = Answer {
+        number: answer::DONE,
+        place: 0,
+    };
+}
+
+/// What a call did; `NONE` where nobody started or stopped. The place is that of the `Answer` to an
+/// unsound dispatcher, and else 0.
 #[repr(C)]
 #[derive(Debug, Clone, Copy, PartialEq, Eq)]
 pub struct Report {
@@ -93,6 +115,7 @@ pub struct Report {
     pub moves: u8,
     pub started: u16,
     pub stopped: u16,
+    pub place: u16,
 }
 
 impl Report {
@@ -103,6 +126,15 @@ impl Report {
             moves: 0,
             started: NONE,
             stopped: NONE,
+            place: 0,
+        }
+    }
+
+    /// The report of a call that was lent an unsound dispatcher.
+    pub const fn unsound(Answer { number, place }: Answer) -> Report {
+        Report {
+            place,
+            ..Report::plain(number)
         }
     }
 }
@@ -164,12 +196,39 @@ pub struct Line {
     pub report: Report,
 }
 
-/// A writer's answer and how many bytes it wrote.
+/// A writer's answer and how many bytes it wrote; the place as in a report.
 #[repr(C)]
 #[derive(Debug, Clone, Copy, PartialEq, Eq)]
 pub struct Written {
     pub number: u8,
+    pub place: u16,
     pub length: usize,
+}
+
+impl Written {
+    pub const fn done(length: usize) -> Written {
+        Written {
+            number: answer::DONE,
+            place: 0,
+            length,
+        }
+    }
+
+    pub const fn refused(number: u8) -> Written {
+        Written {
+            number,
+            place: 0,
+            length: 0,
+        }
+    }
+
+    /// The answer of a writer that was lent an unsound dispatcher.
+    pub const fn unsound(Answer { number, place }: Answer) -> Written {
+        Written {
+            place,
+            ..Written::refused(number)
+        }
+    }
 }
 
 /// What a reader of core sets says: the set, bit k for core k, or a refusal and its offset.

@@ -2,7 +2,7 @@
 //! Rust (`paper`) with what is needed to hold one against the other.
 //!
 //! The library checks every dispatcher it is lent, so any contents of the public fields are safe
-//! to hand over; an unsound one is refused with number 1.
+//! to hand over; an unsound one is refused with a number from 21 to 25 and the place that is wrong.
 
 pub mod compare;
 pub mod layout;
@@ -12,8 +12,8 @@ pub mod raw;
 pub mod states;
 
 pub use layout::{
-    answer, Dispatcher, FileEvent, FileRecord, Layout, Line, LoadReport, Reading, Report, Task,
-    TaskRecord, Written, CORES, EVENTS, LIST_ROOM, LONGEST_FILE, MASK_ROOM, NONE, SLOTS,
+    answer, Answer, Dispatcher, FileEvent, FileRecord, Layout, Line, LoadReport, Reading, Report,
+    Task, TaskRecord, Written, CORES, EVENTS, LIST_ROOM, LONGEST_FILE, MASK_ROOM, NONE, SLOTS,
 };
 
 // Each pointer below comes from a reference or slice that lives through the call, has the length
@@ -63,9 +63,9 @@ impl Dispatcher {
         unsafe { raw::makxirund_load(self, records.as_ptr(), records.len()) }
     }
 
-    /// The paper's number: 0 for a sound dispatcher, 1 for another.
+    /// `Answer::SOUND`, or the first of 21 to 25 that holds of this dispatcher, with its place.
     #[inline]
-    pub fn sound(&self) -> u8 {
+    pub fn sound(&self) -> Answer {
         unsafe { raw::makxirund_sound(self) }
     }
 

@@ -1,14 +1,14 @@
 //! The dispatcher in plain Rust, written from the paper alone.
 //!
-//! Every call checks that the lent dispatcher is sound, then refuses or acts on it in place. Of
-//! several refusals the lowest number is given, so the checks stand in the order of the numbers.
+//! Every call first checks that the lent dispatcher is sound, then refuses or acts on it in place.
+//! Of several other refusals the lowest number is given, so these stand in the order of the numbers.
 #![forbid(unsafe_code)]
 
 use std::cmp::Reverse;
 
 use crate::layout::{
-    answer, Dispatcher, FileEvent, FileRecord, Layout, Line, LoadReport, Report, Task, TaskRecord,
-    Written, CORES, EVENTS, NONE, SLOTS,
+    answer, Answer, Dispatcher, FileEvent, FileRecord, Layout, Line, LoadReport, Report, Task,
+    TaskRecord, Written, CORES, EVENTS, NONE, SLOTS,
 };
 
 pub mod core_sets;
@@ -28,59 +28,98 @@ struct Survey {
     seated: [bool; SLOTS],
 }
 
-/// Checks (a) to (e); `None` for a dispatcher that is not sound.
-fn survey(d: &Dispatcher) -> Option<Survey> {
-    let cores = usize::from(d.cores);
-    if !(1..=CORES).contains(&cores) {
+/// Checks (a) to (e) in this order, each from its lowest slot, place or core.
+fn survey(d: &Dispatcher) -> Result<Survey, Answer> {
+    let mut survey = Survey {
+        ready: 0,
+        places: [NO_PLACE; SLOTS],
+        seated: [false; SLOTS],
+    };
+    check_count(d)?;
+    check_tasks(d)?;
+    check_order(d, &mut survey)?;
+    check_missing_cores(d)?;
+    check_seats(d, &mut survey)?;
+    Ok(survey)
+}
+
+fn unsound(number: u8, place: usize) -> Result<(), Answer> {
+    Err(Answer {
+        number,
+        place: place as u16,
+    })
+}
+
+/// Nearly always all are right, so places are counted only where one is not.
+fn first_wrong<T>(words: &[T], right: impl Fn(&T) -> bool) -> Option<usize> {
+    if words.iter().all(&right) {
         return None;
     }
+    words.iter().position(|word| !right(word))
+}
 
+/// (a) names the count.
+fn check_count(d: &Dispatcher) -> Result<(), Answer> {
+    match usize::from(d.cores) {
+        1..=CORES => Ok(()),
+        count => unsound(answer::UNSOUND_COUNT, count),
+    }
+}
+
+/// (b) names a slot.
+fn check_tasks(d: &Dispatcher) -> Result<(), Answer> {
     let missing = missing_cores(d.cores);
     let legal = |task: &Task| {
         task.is_empty() || task.priority != 0 && task.mask != 0 && task.mask & missing == 0
     };
-    if !d.tasks.iter().all(legal) {
-        return None;
+    match first_wrong(&d.tasks, legal) {
+        None => Ok(()),
+        Some(slot) => unsound(answer::UNSOUND_SLOT, slot),
     }
+}
 
-    let mut ready = 0;
-    let mut places = [NO_PLACE; SLOTS];
+/// (c) names a place: before the first mark one that adds no used slot to those before it, and
+/// after that mark one that holds anything else.
+fn check_order(d: &Dispatcher, survey: &mut Survey) -> Result<(), Answer> {
     for &slot in d.order.iter().take_while(|&&slot| slot != NONE) {
         let slot = usize::from(slot);
-        if d.tasks.get(slot)?.is_empty() || places[slot] != NO_PLACE {
-            return None;
+        let used = d.tasks.get(slot).is_some_and(|task| !task.is_empty());
+        if !used || survey.places[slot] != NO_PLACE {
+            return unsound(answer::UNSOUND_PLACE, usize::from(survey.ready));
         }
-        places[slot] = ready;
-        ready += 1;
+        survey.places[slot] = survey.ready;
+        survey.ready += 1;
     }
-    if d.order[usize::from(ready)..]
-        .iter()
-        .any(|&slot| slot != NONE)
-    {
-        return None;
+    let end = usize::from(survey.ready);
+    match first_wrong(&d.order[end..], |&slot| slot == NONE) {
+        None => Ok(()),
+        Some(beyond) => unsound(answer::UNSOUND_PLACE, end + beyond),
     }
+}
 
-    let (present, absent) = d.seats.split_at(cores);
-    if absent.iter().any(|&slot| slot != NONE) {
-        return None;
+/// (d) names a core at or above the count.
+fn check_missing_cores(d: &Dispatcher) -> Result<(), Answer> {
+    let count = usize::from(d.cores);
+    match first_wrong(&d.seats[count..], |&slot| slot == NONE) {
+        None => Ok(()),
+        Some(beyond) => unsound(answer::UNSOUND_MISSING_CORE, count + beyond),
     }
-    let mut seated = [false; SLOTS];
-    for (core, &slot) in present.iter().enumerate() {
+}
+
+/// (e) names a core below the count.
+fn check_seats(d: &Dispatcher, survey: &mut Survey) -> Result<(), Answer> {
+    for (core, &slot) in d.seats[..usize::from(d.cores)].iter().enumerate() {
         if slot == NONE {
             continue;
         }
         let slot = usize::from(slot);
-        if *places.get(slot)? == NO_PLACE || seated[slot] || d.tasks[slot].mask & bit(core) == 0 {
-            return None;
+        let place = survey.places.get(slot).copied().unwrap_or(NO_PLACE);
+        if place == NO_PLACE || survey.seated[slot] || d.tasks[slot].mask & bit(core) == 0 {
+            return unsound(answer::UNSOUND_SEAT, core);
         }
-        seated[slot] = true;
+        survey.seated[slot] = true;
     }
-
-    Some(Survey {
-        ready,
-        places,
-        seated,
-    })
+    Ok(())
 }
 
 /// The bits at or above a core count of 1 to 32.
@@ -110,12 +149,9 @@ fn used_task(d: &Dispatcher, slot: u16) -> Result<Task, u8> {
     }
 }
 
-/// The paper's number for a lent dispatcher: 0 when it is sound, 1 when not.
-pub fn sound(d: &Dispatcher) -> u8 {
-    match survey(d) {
-        Some(_) => answer::DONE,
-        None => answer::UNSOUND,
-    }
+/// What is wrong with a lent dispatcher, and where, or that nothing is.
+pub fn sound(d: &Dispatcher) -> Answer {
+    survey(d).err().unwrap_or(Answer::SOUND)
 }
 
 /// Makes the dispatcher an empty one with the given cores, or with one core if refused.
@@ -131,8 +167,8 @@ pub fn fresh(d: &mut Dispatcher, cores: u8) -> Report {
 
 /// Fills the slot with a task that is not ready.
 pub fn create(d: &mut Dispatcher, slot: u16, priority: u8, mask: u32) -> Report {
-    if survey(d).is_none() {
-        return Report::plain(answer::UNSOUND);
+    if let Err(answer) = survey(d) {
+        return Report::unsound(answer);
     }
     let record = TaskRecord {
         slot,
@@ -148,7 +184,7 @@ pub fn create(d: &mut Dispatcher, slot: u16, priority: u8, mask: u32) -> Report 
     }
 }
 
-/// Judges a record against a sound dispatcher: the refusals of create but the first.
+/// Judges a record against a sound dispatcher: the other refusals of create.
 fn creation(d: &Dispatcher, record: &TaskRecord) -> Result<Task, u8> {
     let &TaskRecord {
         slot,
@@ -167,12 +203,9 @@ fn creation(d: &Dispatcher, record: &TaskRecord) -> Result<Task, u8> {
 
 /// Creates all records in order, or none.
 pub fn load(d: &mut Dispatcher, records: &[TaskRecord]) -> LoadReport {
-    let answered = |number, index| LoadReport {
-        report: Report::plain(number),
-        index,
-    };
-    if survey(d).is_none() {
-        return answered(answer::UNSOUND, 0);
+    let answered = |report, index| LoadReport { report, index };
+    if let Err(answer) = survey(d) {
+        return answered(Report::unsound(answer), 0);
     }
     for (index, record) in records.iter().enumerate() {
         match creation(d, record) {
@@ -182,17 +215,19 @@ pub fn load(d: &mut Dispatcher, records: &[TaskRecord]) -> LoadReport {
                 for earlier in &records[..index] {
                     d.tasks[usize::from(earlier.slot)] = Task::EMPTY;
                 }
-                return answered(number, index);
+                return answered(Report::plain(number), index);
             }
         }
     }
-    answered(answer::DONE, 0)
+    answered(Report::plain(answer::DONE), 0)
 }
 
 /// Empties the slot; a ready task is blocked first, and the report is that of the block.
 pub fn delete(d: &mut Dispatcher, slot: u16) -> Report {
-    let Some(survey) = &survey(d) else {
-        return Report::plain(answer::UNSOUND);
+    let surveyed = survey(d);
+    let survey = match &surveyed {
+        Ok(survey) => survey,
+        Err(answer) => return Report::unsound(*answer),
     };
     if let Err(number) = used_task(d, slot) {
         return Report::plain(number);
@@ -207,8 +242,10 @@ pub fn delete(d: &mut Dispatcher, slot: u16) -> Report {
 
 /// Makes a task ready and seats it if the rule lets it start.
 pub fn wake(d: &mut Dispatcher, slot: u16) -> Report {
-    let Some(survey) = &survey(d) else {
-        return Report::plain(answer::UNSOUND);
+    let surveyed = survey(d);
+    let survey = match &surveyed {
+        Ok(survey) => survey,
+        Err(answer) => return Report::unsound(*answer),
     };
     let task = match used_task(d, slot) {
         Ok(task) => task,
@@ -243,6 +280,7 @@ pub fn wake(d: &mut Dispatcher, slot: u16) -> Report {
         moves: search.take(d, slot, end),
         started: slot,
         stopped,
+        place: 0,
     }
 }
 
@@ -309,8 +347,10 @@ impl Search {
 
 /// Ends a task's being ready and hands its core to the waiting task that should have it.
 pub fn block(d: &mut Dispatcher, slot: u16) -> Report {
-    let Some(survey) = &survey(d) else {
-        return Report::plain(answer::UNSOUND);
+    let surveyed = survey(d);
+    let survey = match &surveyed {
+        Ok(survey) => survey,
+        Err(answer) => return Report::unsound(*answer),
     };
     if let Err(number) = used_task(d, slot) {
         return Report::plain(number);
@@ -352,6 +392,7 @@ fn leave(d: &mut Dispatcher, survey: &Survey, slot: u16, place: u8) -> Report {
             moves: rings.take(d, starter),
             started: starter,
             stopped: NONE,
+            place: 0,
         },
         None => Report::plain(answer::DONE),
     }
@@ -517,12 +558,11 @@ pub fn event(file: &[u8], index: usize) -> FileEvent {
 
 /// Writes one report line with its newline to the buffer's start.
 pub fn write_line(line: &Line, d: &Dispatcher, buffer: &mut [u8]) -> Written {
-    let refused = |number| Written { number, length: 0 };
-    if survey(d).is_none() {
-        return refused(answer::UNSOUND);
+    if let Err(answer) = survey(d) {
+        return Written::unsound(answer);
     }
     let Some(&letter) = b"CWBD".get(usize::from(line.kind)) else {
-        return refused(answer::EVENT_KIND);
+        return Written::refused(answer::EVENT_KIND);
     };
 
     let mut text = Text::new();
@@ -612,15 +652,9 @@ impl Text {
         match buffer.get_mut(..self.length) {
             Some(start) => {
                 start.copy_from_slice(&self.bytes[..self.length]);
-                Written {
-                    number: answer::DONE,
-                    length: self.length,
-                }
+                Written::done(self.length)
             }
-            None => Written {
-                number: answer::LINE_LONG,
-                length: 0,
-            },
+            None => Written::refused(answer::LINE_LONG),
         }
     }
 }

@@ -1,8 +1,8 @@
 //! The library's C interface as it stands.
 
 use crate::layout::{
-    Dispatcher, FileEvent, FileRecord, Layout, Line, LoadReport, Reading, Report, TaskRecord,
-    Written,
+    Answer, Dispatcher, FileEvent, FileRecord, Layout, Line, LoadReport, Reading, Report,
+    TaskRecord, Written,
 };
 
 extern "C" {
@@ -16,7 +16,7 @@ extern "C" {
         records: *const TaskRecord,
         count: usize,
     ) -> LoadReport;
-    pub fn makxirund_sound(d: *const Dispatcher) -> u8;
+    pub fn makxirund_sound(d: *const Dispatcher) -> Answer;
     pub fn makxirund_read(file: *const u8, length: usize) -> Layout;
     pub fn makxirund_record(file: *const u8, length: usize, index: usize) -> FileRecord;
     pub fn makxirund_event(file: *const u8, length: usize, index: usize) -> FileEvent;

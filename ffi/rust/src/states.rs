@@ -2,7 +2,7 @@
 //! gives them, and damaged ones.
 #![forbid(unsafe_code)]
 
-use crate::layout::{Dispatcher, Task, CORES, NONE, SLOTS};
+use crate::layout::{answer, Answer, Dispatcher, Task, CORES, NONE, SLOTS};
 use crate::random::Random;
 
 /// How the masks of a scenario are drawn.
@@ -241,20 +241,126 @@ fn shuffled_slots(random: &mut Random) -> Vec<u16> {
     slots
 }
 
-/// Changes one to three fields, mostly so that the dispatcher is no longer sound.
+/// Changes some fields, mostly so that the dispatcher, whose core count is legal, is no longer sound:
+/// stray writes, or breaches of some of (a) to (e), in one place or in several.
 pub fn damage(random: &mut Random, d: &mut Dispatcher) {
-    for _ in 0..random.between(1, 3) {
-        damage_once(random, d);
+    if random.chance(1, 2) {
+        for _ in 0..random.between(1, 3) {
+            stray_write(random, d);
+        }
+        return;
+    }
+    // The one that is answered is drawn first, so that each comes up as often as the others. The
+    // count is spoilt last, for the others need it.
+    let first = random.below(BREACHES.len());
+    for (condition, breach) in BREACHES.iter().enumerate().skip(first).rev() {
+        if condition == first || random.chance(1, 2) {
+            for _ in 0..random.pick(&[1, 1, 2, 3]) {
+                breach(random, d);
+            }
+        }
     }
 }
 
-fn damage_once(random: &mut Random, d: &mut Dispatcher) {
+type Breach = fn(&mut Random, &mut Dispatcher);
+
+/// Breaches of (a) to (e), in this order.
+const BREACHES: [Breach; 5] = [
+    spoil_count,
+    spoil_task,
+    spoil_order,
+    spoil_missing_core,
+    spoil_seat,
+];
+
+fn spoil_count(random: &mut Random, d: &mut Dispatcher) {
+    let other = random.between(CORES + 1, 255) as u8;
+    d.cores = random.pick(&[0, 33, 255, other, other]);
+}
+
+fn spoil_task(random: &mut Random, d: &mut Dispatcher) {
+    let slot = random.below(SLOTS);
+    let slot = random.pick(&[0, slot, slot, slot, slot, SLOTS - 1]);
+    let task = &mut d.tasks[slot];
+    match random.below(3) {
+        0 => {
+            task.priority = 0;
+            task.mask |= 1;
+        }
+        1 => {
+            task.priority |= 1;
+            task.mask = 0;
+        }
+        _ => {
+            // With 32 cores none is missing; then the priority is wrong.
+            let missing = !full_mask(usize::from(d.cores));
+            let (lowest, any) = (missing & missing.wrapping_neg(), random.word() as u32);
+            task.priority = u8::from(missing != 0);
+            task.mask |= 1 | missing & random.pick(&[lowest, 1 << 31, any | lowest]);
+        }
+    }
+}
+
+/// An entry that is no used slot or stands there twice, a gap, or something after the last entry.
+fn spoil_order(random: &mut Random, d: &mut Dispatcher) {
+    let ready = ready_count(d);
+    let place = random.below(ready.max(1));
+    let entry = d.order[random.below(ready.max(1))];
+    let beyond = random.between(ready, SLOTS).min(SLOTS - 1);
+    match random.below(6) {
+        0 => d.order[place] = nasty(random),
+        1 => d.order[place] = random.below(SLOTS) as u16,
+        2 => d.order[place] = entry,
+        3 => d.order[place] = NONE,
+        4 => d.order[beyond] = random.below(SLOTS) as u16,
+        _ => d.order[beyond] = nasty(random),
+    }
+}
+
+fn spoil_missing_core(random: &mut Random, d: &mut Dispatcher) {
     let count = usize::from(d.cores);
-    let ready = d
-        .order
+    if count < CORES {
+        let core = random.between(count, CORES - 1);
+        let core = random.pick(&[count, core, core, core, CORES - 1]);
+        let slot = random.below(SLOTS) as u16;
+        d.seats[core] = random.pick(&[slot, 0, 127, 128, 200, 254, 256, 65_535]);
+    }
+}
+
+/// A sitter that is not ready or no slot at all, sits twice, or sits on another core than before.
+fn spoil_seat(random: &mut Random, d: &mut Dispatcher) {
+    let count = usize::from(d.cores);
+    let (core, other) = (random.below(count), random.below(count));
+    match random.below(4) {
+        0 => d.seats[core] = nasty(random),
+        1 => d.seats[core] = random.below(SLOTS) as u16,
+        2 => d.seats[core] = d.seats[other],
+        _ => d.seats.swap(core, other),
+    }
+}
+
+/// Mends the one word that the answer to an unsound dispatcher names; the count as given.
+pub fn mend(d: &mut Dispatcher, answer: Answer, cores: u8) {
+    let place = usize::from(answer.place);
+    match answer.number {
+        answer::UNSOUND_COUNT => d.cores = cores,
+        answer::UNSOUND_SLOT => d.tasks[place] = Task::EMPTY,
+        answer::UNSOUND_PLACE => d.order[place] = NONE,
+        _ => d.seats[place] = NONE,
+    }
+}
+
+/// How many places of the wake order are before the first mark.
+pub fn ready_count(d: &Dispatcher) -> usize {
+    d.order
         .iter()
         .position(|&slot| slot == NONE)
-        .unwrap_or(SLOTS);
+        .unwrap_or(SLOTS)
+}
+
+fn stray_write(random: &mut Random, d: &mut Dispatcher) {
+    let count = usize::from(d.cores);
+    let ready = ready_count(d);
     let place = random.below(SLOTS);
     let near = random.below(SLOTS.min(ready + 2));
     let core = random.below(CORES);

@@ -91,8 +91,12 @@ fn written(
     room: usize,
 ) -> Result<String, u8> {
     let mut buffer = [0xA5; 256];
-    let Written { number, length } = writer(set, limit, &mut buffer[..room]);
-    assert!(buffer[length..].iter().all(|&byte| byte == 0xA5));
+    let Written {
+        number,
+        place,
+        length,
+    } = writer(set, limit, &mut buffer[..room]);
+    assert!(place == 0 && buffer[length..].iter().all(|&byte| byte == 0xA5));
     match number {
         0 => Ok(String::from_utf8(buffer[..length].to_vec()).unwrap()),
         _ if length == 0 => Err(number),

@@ -6,8 +6,8 @@ use std::mem::{align_of, offset_of, size_of};
 use std::process::{Command, Stdio};
 
 use makxirund::{
-    event, read, record, write_fault, Dispatcher, FileEvent, FileRecord, Layout, Line, LoadReport,
-    Reading, Report, Task, TaskRecord, Written,
+    event, read, record, write_fault, Answer, Dispatcher, FileEvent, FileRecord, Layout, Line,
+    LoadReport, Reading, Report, Task, TaskRecord, Written,
 };
 
 const FILE: [u8; 44] = [
@@ -146,7 +146,7 @@ fn fresh_takes_1_to_32_cores() {
         let legal = (1..=32).contains(&cores);
         assert_eq!(report, Report::plain(if legal { 0 } else { 2 }));
         assert_eq!(d, Dispatcher::empty(if legal { cores } else { 1 }));
-        assert_eq!(d.sound(), 0);
+        assert_eq!(d.sound(), Answer::SOUND);
     }
 }
 
@@ -188,8 +188,6 @@ fn load_creates_all_or_none() {
     assert_eq!(d, Dispatcher::empty(2));
     assert_eq!(d.load(&twice[..2]), answered(0, 0));
     assert_eq!(d.tasks[1].mask, 3);
-    d.seats[0] = 7;
-    assert_eq!(d.load(&[]), answered(1, 0));
 }
 
 #[test]
@@ -210,8 +208,13 @@ fn shapes_are_as_the_interface_says() {
         offsets!(Dispatcher, cores tasks order seats),
         [0, 4, 1028, 1284]
     );
-    assert_eq!((size_of::<Report>(), align_of::<Report>()), size(6, 2));
-    assert_eq!(offsets!(Report, number moves started stopped), [0, 1, 2, 4]);
+    assert_eq!((size_of::<Answer>(), align_of::<Answer>()), size(4, 2));
+    assert_eq!(offsets!(Answer, number place), [0, 2]);
+    assert_eq!((size_of::<Report>(), align_of::<Report>()), size(8, 2));
+    assert_eq!(
+        offsets!(Report, number moves started stopped place),
+        [0, 1, 2, 4, 6]
+    );
     assert_eq!(
         (size_of::<TaskRecord>(), align_of::<TaskRecord>()),
         size(8, 4)
@@ -240,7 +243,7 @@ fn shapes_are_as_the_interface_says() {
     assert_eq!((size_of::<Line>(), align_of::<Line>()), size(16, 4));
     assert_eq!(offsets!(Line, number kind slot report), [0, 4, 6, 8]);
     assert_eq!((size_of::<Written>(), align_of::<Written>()), size(16, 8));
-    assert_eq!(offsets!(Written, number length), [0, 8]);
+    assert_eq!(offsets!(Written, number place length), [0, 2, 8]);
     assert_eq!((size_of::<Reading>(), align_of::<Reading>()), size(24, 8));
     assert_eq!(offsets!(Reading, number offset set), [0, 8, 16]);
 }

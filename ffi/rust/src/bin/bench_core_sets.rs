@@ -24,10 +24,7 @@ fn no_read(_: &[u8], _: u8) -> Reading {
 }
 
 fn no_write(_: u64, _: u8, _: &mut [u8]) -> Written {
-    Written {
-        number: 0,
-        length: 0,
-    }
+    Written::done(0)
 }
 
 fn main() {

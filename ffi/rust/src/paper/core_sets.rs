@@ -115,19 +115,15 @@ pub fn write_mask(set: u64, limit: u8, buffer: &mut [u8]) -> Written {
 }
 
 fn write(set: u64, limit: u8, text: &str, buffer: &mut [u8]) -> Written {
-    let refused = |number| Written { number, length: 0 };
     if names_above(set, cores(limit)) {
-        return refused(answer::ABOVE_LIMIT);
+        return Written::refused(answer::ABOVE_LIMIT);
     }
     let length = text.len();
-    let Some(place) = buffer.get_mut(..length) else {
-        return refused(answer::OUTPUT_SHORT);
+    let Some(start) = buffer.get_mut(..length) else {
+        return Written::refused(answer::OUTPUT_SHORT);
     };
-    place.copy_from_slice(text.as_bytes());
-    Written {
-        number: answer::DONE,
-        length,
-    }
+    start.copy_from_slice(text.as_bytes());
+    Written::done(length)
 }
 
 /// Ascending, each longest run of two or more as a range.

@@ -106,10 +106,10 @@ fn oracle_wake(d: &mut Dispatcher, slot: u16) -> Report {
     let (seats, moves) = taken(d, slot, &chain);
     d.seats = seats;
     Report {
-        number: 0,
         moves,
         started: slot,
         stopped,
+        ..Report::plain(0)
     }
 }
 
@@ -132,10 +132,9 @@ fn oracle_block(d: &mut Dispatcher, slot: u16) -> Report {
             let (seats, moves) = taken(d, waiting, &chain);
             d.seats = seats;
             return Report {
-                number: 0,
                 moves,
                 started: waiting,
-                stopped: NONE,
+                ..Report::plain(0)
             };
         }
     }
@@ -152,36 +151,50 @@ fn oracle_delete(d: &mut Dispatcher, slot: u16) -> Report {
     report
 }
 
-/// (a) to (e), one sentence after the other.
-fn oracle_sound(d: &Dispatcher) -> bool {
-    let cores = u32::from(d.cores);
-    let a = (1..=32).contains(&cores);
+/// For each of (a) to (e) the count, or all slots, places or cores, that break it, word by word.
+fn breaches(d: &Dispatcher) -> [Vec<u16>; 5] {
+    let cores = u16::from(d.cores);
     let used = |slot: u16| slot < 128 && (task(d, slot).priority != 0 || task(d, slot).mask != 0);
-    let b = (0..128).filter(|&slot| used(slot)).all(|slot| {
-        let task = task(d, slot);
-        let named = |core: u32| task.mask >> core & 1 == 1;
-        task.priority >= 1 && task.mask != 0 && (0..32).all(|core| !named(core) || core < cores)
-    });
-    let times = |places: &[u16], slot: u16| places.iter().filter(|&&other| other == slot).count();
-    let c = (0..128).all(|place| {
-        let slot = d.order[place];
-        slot == 255
-            || used(slot)
-                && times(&d.order, slot) == 1
-                && d.order[..place].iter().all(|&earlier| earlier != 255)
-    });
-    let seats = |core: u32| d.seats[core as usize];
-    let below = |core: &u32| *core < cores;
-    let d_ = (0..32).all(|core| below(&core) || seats(core) == 255);
-    let e = (0..32).filter(below).all(|core| {
-        let slot = seats(core);
-        slot == 255
-            || slot < 128
-                && times(&d.order, slot) == 1
-                && times(&d.seats, slot) == 1
-                && task(d, slot).mask >> core & 1 == 1
-    });
-    a && b && c && d_ && e
+    let named = |slot: u16, core: u16| task(d, slot).mask >> core & 1 == 1;
+    let entry = |place: u16| d.order[usize::from(place)];
+    let sitter = |core: u16| d.seats[usize::from(core)];
+
+    let count = |count: &u16| !(1..=32).contains(count);
+    let slot = |&slot: &u16| {
+        let legal = task(d, slot).priority != 0 && task(d, slot).mask != 0;
+        used(slot) && !(legal && (0..32).all(|core| !named(slot, core) || core < cores))
+    };
+    let place = |&place: &u16| {
+        let twice = (0..place).any(|earlier| entry(earlier) == entry(place));
+        let after_gap = (0..place).any(|earlier| entry(earlier) == 255);
+        entry(place) != 255 && (!used(entry(place)) || twice || after_gap)
+    };
+    let missing_core = |&core: &u16| core >= cores && sitter(core) != 255;
+    let seat = |&core: &u16| {
+        let slot = sitter(core);
+        let ready = slot < 128 && (0..128).any(|place| entry(place) == slot);
+        let twice = (0..core).any(|lower| sitter(lower) == slot);
+        core < cores && slot != 255 && (!ready || twice || !named(slot, core))
+    };
+    [
+        [cores].into_iter().filter(count).collect(),
+        (0..128).filter(slot).collect(),
+        (0..128).filter(place).collect(),
+        (0..32).filter(missing_core).collect(),
+        (0..32).filter(seat).collect(),
+    ]
+}
+
+/// The first condition that is broken, and the lowest that breaks it.
+fn oracle_sound(d: &Dispatcher) -> Answer {
+    let lowest = breaches(d).map(|broken| broken.into_iter().min());
+    match lowest.iter().position(Option::is_some) {
+        None => Answer::SOUND,
+        Some(condition) => Answer {
+            number: 21 + condition as u8,
+            place: lowest[condition].unwrap(),
+        },
+    }
 }
 
 /// The tasks of the one running set: taken in their order, each kept if all kept ones can sit.
@@ -230,7 +243,7 @@ fn wake_and_block_follow_the_listed_chains() {
             };
             assert_eq!(report, wanted, "slot {slot} of {d:?}");
             assert_eq!(got, expected, "slot {slot} of {d:?}");
-            assert!(oracle_sound(&got));
+            assert_eq!(oracle_sound(&got), Answer::SOUND);
             most = most.max(report.moves);
         }
     }
@@ -256,7 +269,8 @@ fn delete_blocks_a_ready_task_and_empties_its_slot() {
             assert_eq!(report, wanted, "slot {slot} of {d:?}");
             assert_eq!(got, expected, "slot {slot} of {d:?}");
             assert_eq!(report.stopped, NONE);
-            assert!(oracle_sound(&got) && task(&got, slot).is_empty());
+            assert_eq!(oracle_sound(&got), Answer::SOUND);
+            assert!(task(&got, slot).is_empty());
             let met = match report {
                 _ if !order(&d).contains(&slot) => &mut not_ready,
                 _ if !ran => &mut waiting,
@@ -288,10 +302,9 @@ fn delete_on_the_board_of_the_listing() {
     let check = |slot: u16, (moves, started), order: &[u16], seats: [u16; 3]| {
         let (mut got, mut expected) = (d.clone(), d.clone());
         let report = Report {
-            number: 0,
             moves,
             started,
-            stopped: NONE,
+            ..Report::plain(0)
         };
         assert_eq!(delete(&mut got, slot), report);
         expected.tasks[usize::from(slot)] = Task::EMPTY;
@@ -310,42 +323,71 @@ fn delete_on_the_board_of_the_listing() {
     assert_eq!(order(&none_waits), [0, 1]);
 }
 
+/// Every call that is lent an unsound dispatcher gives this answer first, and changes nothing.
+fn refuses(random: &mut Random, d: &Dispatcher, answer: Answer) {
+    let mut lent = d.clone();
+    let slot = random.below(300) as u16;
+    let report = Report::unsound(answer);
+    assert_eq!(create(&mut lent, slot, 0, 0), report);
+    assert_eq!(delete(&mut lent, slot), report);
+    assert_eq!(wake(&mut lent, slot), report);
+    assert_eq!(block(&mut lent, slot), report);
+    let record = TaskRecord {
+        slot,
+        priority: 0,
+        mask: 0,
+    };
+    let refused = LoadReport { report, index: 0 };
+    assert_eq!(load(&mut lent, &[]), refused);
+    assert_eq!(load(&mut lent, &[record]), refused);
+    let line = Line {
+        number: 1,
+        kind: 9,
+        slot,
+        report,
+    };
+    let written = write_line(&line, &lent, &mut []);
+    assert_eq!(written, Written::unsound(answer));
+    assert_eq!(&lent, d);
+}
+
 #[test]
 fn soundness_is_the_five_sentences() {
     let mut random = Random::new(2);
-    let (mut good, mut bad) = (0, 0);
+    let mut good = 0;
+    let mut answered = [0; 5];
+    // How often each two conditions were broken at once, and each at all.
+    let mut both = [[0; 5]; 5];
     for round in 0..100_000 {
         let cores = random.between(1, 32);
         let mut d = random_sound(&mut random, cores);
-        assert!(oracle_sound(&d) && sound(&d) == 0);
+        assert_eq!(
+            (oracle_sound(&d), sound(&d)),
+            (Answer::SOUND, Answer::SOUND)
+        );
         if round % 20 == 0 {
             d = random_pattern(&mut random);
         } else {
             damage(&mut random, &mut d);
         }
-        let before = d.clone();
-        if oracle_sound(&d) {
+        let answer = oracle_sound(&d);
+        assert_eq!(sound(&d), answer, "{d:?}");
+        if answer == Answer::SOUND {
             good += 1;
-            assert_eq!(sound(&d), 0, "{d:?}");
-        } else {
-            bad += 1;
-            assert_eq!(sound(&d), 1, "{d:?}");
-            let slot = random.below(300) as u16;
-            let unsound = Report::plain(1);
-            assert_eq!(create(&mut d, slot, 0, 0), unsound);
-            assert_eq!(delete(&mut d, slot), unsound);
-            assert_eq!(wake(&mut d, slot), unsound);
-            assert_eq!(block(&mut d, slot), unsound);
-            let refused = LoadReport {
-                report: unsound,
-                index: 0,
-            };
-            assert_eq!(load(&mut d, &[]), refused);
-            assert_eq!(d, before);
+            continue;
+        }
+        refuses(&mut random, &d, answer);
+        answered[usize::from(answer.number) - 21] += 1;
+        let broken = breaches(&d).map(|broken| !broken.is_empty());
+        for (both, first) in both.iter_mut().zip(broken) {
+            for (both, second) in both.iter_mut().zip(broken) {
+                *both += u32::from(first && second);
+            }
         }
     }
-    println!("{good} still sound, {bad} not");
-    assert!(good > 5_000 && bad > 50_000);
+    println!("{good} still sound; 21 to 25: {answered:?}; two at once: {both:?}");
+    assert!(good > 5_000 && answered.iter().all(|&states| states > 5_000));
+    assert!(both.iter().flatten().all(|&states| states > 1_000));
 }
 
 #[test]
@@ -500,6 +542,7 @@ fn lines_fit_exactly_or_are_refused() {
             moves: 255,
             started: 65_535,
             stopped: 255,
+            place: 65_535,
         },
     };
     let text = b"4294967295 D 65535 255 255 65535 - -,-,-\n";
@@ -512,7 +555,8 @@ fn lines_fit_exactly_or_are_refused() {
     assert_eq!((written.number, written.length), (15, 0));
     line.kind = 4;
     assert_eq!(write_line(&line, &d, &mut []).number, 14);
-    assert_eq!(write_line(&line, &Dispatcher::empty(0), &mut []).number, 1);
+    let written = write_line(&line, &Dispatcher::empty(33), &mut []);
+    assert_eq!((written.number, written.place), (21, 33));
 
     let written = write_fault(255, usize::MAX, &mut buffer);
     assert_eq!(
