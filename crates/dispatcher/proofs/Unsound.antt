@@ -1,9 +1,9 @@
 -- What is unsound: that number and place are one answer, that a dispatcher which nothing is said against is sound, and the rows of a call after those of soundness.
 use Prim.Native.Nat.{ℕ, _≤_, _<_}
 use mathlib.Core.Path.{_≡_, refl, sym, _∙_}
-use mathlib.Core.Logic.{_≢_, _⊎_, inl, inr}
+use mathlib.Core.Logic.{_≢_, inl, inr}
 use mathlib.Core.Bool.{cond}
-use mathlib.Core.List.{List, [], _++_}
+use mathlib.Core.List.{List, [], _∷_, _++_}
 use native.Mathlib.Decide.{ℕ-discrete}
 use native.Mathlib.Omega.{arith}
 use lib.ListN.{length}
@@ -13,10 +13,10 @@ use Rattle.laws.specs.Lists.{In}
 use Rattle.laws.specs.Answering.{Refusal, Applies, checkedFirst, turnOf, Answers}
 use Rattle.laws.proofs.Lists.{in-or-not}
 use Rattle.laws.proofs.Lowering.{lowest-same}
-use Rattle.laws.proofs.Answering.{first-turn, turn-first, AllLater, from-applies, none-applies, applies-split, answers-first, answers-then, answers-rest}
+use Rattle.laws.proofs.Answering.{first-turn, turn-first, AllLater, from-applies, none-applies, applies-left, applies-split, answers-first, answers-then, answers-rest}
 use Rattle.dispatcher.specs.Sound.{Sound}
 use Rattle.dispatcher.specs.Answers.{numberOf, placeOf}
-use Rattle.dispatcher.specs.Unsound.{unsoundRefusals, Points}
+use Rattle.dispatcher.specs.Unsound.{Condition, conditions, unsoundRefusals, PlaceWith, Points}
 use Rattle.dispatcher.specs.Promise.{Answered}
 use Rattle.dispatcher.specs.declared.Answer.{Answer}
 use Rattle.dispatcher.specs.declared.Answer.the-variants.{Done, UnsoundCount, UnsoundSlot, UnsoundPlace, UnsoundMissingCore, UnsoundSeat, CoreCount, SlotAbove, SlotInUse, SlotEmpty, PriorityZero, MaskEmpty, MissingCore, AlreadyReady, NotReady, FileShort, BytesAfter, BadKind, LineLong, EventCount}
@@ -26,17 +26,22 @@ use Rattle.dispatcher.proofs.Judging.{Test, firstOf, JudgedBy, judged, 
 
 -- ---- a number has one place
 
-pub points-same : {d : Dispatcher} {n p q : ℕ} → Points d n p → Points d n q → p ≡ q
-points-same {n = n} {p} {q} a b = go (in-or-not n checkedFirst)
+-- each condition allows one place
+abbrev OneEach : List Condition → Type 0
+OneEach [] = Unit {0}
+OneEach (c ∷ cs) = ((p q : ℕ) → c .place p → c .place q → p ≡ q) × OneEach cs
+
+place-same : (cs : List Condition) (n p q : ℕ) → OneEach cs → PlaceWith cs n p → PlaceWith cs n q → p ≡ q
+place-same [] n p q one a b = a ∙ sym b
+place-same (c ∷ cs) n p q one a b = go (ℕ-discrete n (c .number)) (λ z. place-same cs n p q (one .1) (a .1 z) (b .1 z))
   where
-    go : In n checkedFirst ⊎ (In n checkedFirst → ⊥) → p ≡ q
-    go (inl (inl e)) = a .count e ∙ sym (b .count e)
-    go (inl (inr (inl e))) = lowest-same (a .slot e) (b .slot e)
-    go (inl (inr (inr (inl e)))) = lowest-same (a .order e) (b .order e)
-    go (inl (inr (inr (inr (inl e))))) = lowest-same (a .missing e) (b .missing e)
-    go (inl (inr (inr (inr (inr (inl e)))))) = lowest-same (a .seat e) (b .seat e)
-    go (inl (inr (inr (inr (inr (inr i)))))) = absurd i
-    go (inr out) = a .other out ∙ sym (b .other out)
+    go : Dec (n ≡ c .number) → (n ≢ c .number → p ≡ q) → p ≡ q
+    go (yes e) on = one .0 p q (a .0 e) (b .0 e)
+    go (no z) on = on z
+
+pub points-same : {d : Dispatcher} {n p q : ℕ} → Points d n p → Points d n q → p ≡ q
+points-same {d} {n} {p} {q} a b =
+    place-same (conditions d) n p q ((λ i j x y. x ∙ sym y), ((λ i j. lowest-same), ((λ i j. lowest-same), ((λ i j. lowest-same), ((λ i j. lowest-same), tt))))) (a .told) (b .told)
 
 -- ---- an answer that is not checked first tells no place
 
@@ -68,16 +73,22 @@ later-place BadKind l = refl
 later-place LineLong l = refl
 later-place EventCount l = refl
 
+-- n is the number of no condition
+abbrev IsNone : List Condition → ℕ → Type 0
+IsNone [] n = Unit {0}
+IsNone (c ∷ cs) n = (n ≢ c .number) × IsNone cs n
+
+place-none : (cs : List Condition) (n p : ℕ) → IsNone cs n → p ≡ 0 → PlaceWith cs n p
+place-none [] n p out z = z
+place-none (c ∷ cs) n p out z = ((λ e. absurd (out .0 e)), λ _. place-none cs n p (out .1) z)
+
 pub later-points : (d : Dispatcher) (a : Answer) → IsLater (numberOf a) → Points d (numberOf a) (placeOf a)
 later-points d a l =
     let out = not-first (numberOf a) l in
     record {
-      count = λ e. absurd (out (inl e));
-      slot = λ e. absurd (out (inr (inl e)));
-      order = λ e. absurd (out (inr (inr (inl e))));
-      missing = λ e. absurd (out (inr (inr (inr (inl e)))));
-      seat = λ e. absurd (out (inr (inr (inr (inr (inl e))))));
-      other = λ _. later-place a l;
+      told = place-none (conditions d) (numberOf a) (placeOf a)
+          ((λ e. out (inl e)), ((λ e. out (inr (inl e))), ((λ e. out (inr (inr (inl e)))), ((λ e. out (inr (inr (inr (inl e))))), ((λ e. out (inr (inr (inr (inr (inl e)))))), tt)))))
+          (later-place a l);
     }
 
 -- done, or refused by a row that is not checked first
@@ -107,15 +118,19 @@ module _ (d : Dispatcher) where
   pub sound-own : Sound d → (rs : List Refusal) (m : ℕ) → Applies (unsoundRefusals d ++ rs) m → Applies rs m
   sound-own S rs m a = elim (applies-split (unsoundRefusals d) rs m a) [ inl bad ↦ absurd (sound-none S m bad) | inr own ↦ own ]
 
+  -- and a dispatcher that nothing is said against is sound
+  none-sound : ((m : ℕ) → Applies (unsoundRefusals d) m → ⊥) → Sound d
+  none-sound none = record {
+    count = count-stable d (λ bad. none 21 (inl (refl, bad)));
+    slots = slots-stable d (λ bad. none 22 (inr (inl (refl, bad))));
+    order = order-stable d (λ bad. none 23 (inr (inr (inl (refl, bad)))));
+    missing = missing-stable d (λ bad. none 24 (inr (inr (inr (inl (refl, bad))))));
+    seats = seats-stable d (λ bad. none 25 (inr (inr (inr (inr (inl (refl, bad)))))));
+  }
+
   -- where a call is done, its dispatcher was sound
   pub done-sound : {rs : List Refusal} {n : ℕ} → Answers (unsoundRefusals d ++ rs) n → n ≡ 0 → Sound d
-  done-sound h z = record {
-    count = count-stable d (λ bad. none-applies h z 21 (inl (refl, bad)));
-    slots = slots-stable d (λ bad. none-applies h z 22 (inr (inl (refl, bad))));
-    order = order-stable d (λ bad. none-applies h z 23 (inr (inr (inl (refl, bad)))));
-    missing = missing-stable d (λ bad. none-applies h z 24 (inr (inr (inr (inl (refl, bad))))));
-    seats = seats-stable d (λ bad. none-applies h z 25 (inr (inr (inr (inr (inl (refl, bad)))))));
-  }
+  done-sound {rs} h z = none-sound (λ m a. none-applies h z m (applies-left (unsoundRefusals d) rs m a))
 
   -- and nothing of its own rows applies
   pub done-own : (rs : List Refusal) {n : ℕ} → Answers (unsoundRefusals d ++ rs) n → n ≡ 0 → Answers rs 0
@@ -129,25 +144,21 @@ module _ (d : Dispatcher) where
   first-applies n (inr (inr (inr (inr (inl (e, _)))))) = inr (inr (inr (inr (inl e))))
   first-applies n (inr (inr (inr (inr (inr a))))) = absurd a
 
+  pub unsound-turn : (n : ℕ) → Applies (unsoundRefusals d) n → turnOf n < length checkedFirst
+  unsound-turn n a = first-turn checkedFirst n (first-applies n a)
+
   pub unsound-is-first : {n : ℕ} → Answers (unsoundRefusals d) n → n ≢ 0 → In n checkedFirst
   unsound-is-first {n} h z = first-applies n (h .listed z)
 
--- whatever else refuses a call, an unsound dispatcher is what it says
+-- whatever else refuses a call, an unsound dispatcher is what it says: a condition that is broken has its turn before all others
 pub unsound-told : (d : Dispatcher) {rs : List Refusal} {n : ℕ} → Answers (unsoundRefusals d ++ rs) n → (Sound d → ⊥) → In n checkedFirst
-unsound-told d {rs} {n} h bad = elim (in-or-not n checkedFirst) [ inl i ↦ i | inr out ↦ absurd (bad (sound out)) ]
+unsound-told d {rs} {n} h bad = elim (in-or-not n checkedFirst) [ inl i ↦ i | inr out ↦ absurd (bad (none-sound d (λ m a. out (turn m a)))) ]
   where
-    -- a condition that is broken has its turn before all others
-    turn : (m : ℕ) → turnOf m < length checkedFirst → Applies (unsoundRefusals d ++ rs) m → In n checkedFirst
-    turn m l a = let k = h .first m a in turn-first checkedFirst n (omega (arith, l, k .1))
-
-    sound : (In n checkedFirst → ⊥) → Sound d
-    sound out = record {
-      count = count-stable d (λ b. out (turn 21 (omega arith) (inl (refl, b))));
-      slots = slots-stable d (λ b. out (turn 22 (omega arith) (inr (inl (refl, b)))));
-      order = order-stable d (λ b. out (turn 23 (omega arith) (inr (inr (inl (refl, b))))));
-      missing = missing-stable d (λ b. out (turn 24 (omega arith) (inr (inr (inr (inl (refl, b)))))));
-      seats = seats-stable d (λ b. out (turn 25 (omega arith) (inr (inr (inr (inr (inl (refl, b))))))));
-    }
+    turn : (m : ℕ) → Applies (unsoundRefusals d) m → In n checkedFirst
+    turn m a =
+        let k = h .first m (applies-left (unsoundRefusals d) rs m a) in
+        let l = unsound-turn d m a in
+        turn-first checkedFirst n (omega (arith, k .1, l))
 
 -- an answer of 0
 pub done-answered : (d : Dispatcher) {rs : List Refusal} → Answers rs 0 → Answered rs d Done
@@ -173,7 +184,7 @@ module _ {d : Dispatcher} (rs : List Refusal) (later : AllLater rs) where
       above : (m : ℕ) → Applies rs m → turnOf (numberOf a) < turnOf m
       above m x =
           let l = from-applies (length checkedFirst) rs m later x in
-          let k = first-turn checkedFirst (numberOf a) (unsound-is-first d (h .answer) z) in
+          let k = unsound-turn d (numberOf a) (h .answer .listed z) in
           omega arith
 
   pub sound-then : {a : Answer} → Sound d → Answers rs (numberOf a) → Answered (unsoundRefusals d ++ rs) d a

@@ -77,7 +77,7 @@ done-where-none {n = n} h none = go (ℕ-discrete n 0)
 
 -- ---- rows and then more rows
 
-applies-left : (rs more : List Refusal) (n : ℕ) → Applies rs n → Applies (rs ++ more) n
+pub applies-left : (rs more : List Refusal) (n : ℕ) → Applies rs n → Applies (rs ++ more) n
 applies-left [] more n a = absurd a
 applies-left (r ∷ rs) more n (inl a) = inl a
 applies-left (r ∷ rs) more n (inr a) = inr (applies-left rs more n a)

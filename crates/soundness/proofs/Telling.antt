@@ -1,7 +1,6 @@
 -- What the check tells: the number of the first condition that is broken, and where.
 use Prim.Native.Nat.{ℕ, suc, _<_}
 use mathlib.Core.Path.{refl}
-use mathlib.Core.Logic.{inl, inr}
 use mathlib.Core.List.{List, [], _∷_}
 use native.Mathlib.Omega.{arith}
 use Rattle.laws.specs.Lowest.{Lowest, Throughout}
@@ -34,64 +33,29 @@ module _ {d : Dispatcher} where
   pub tells-count : (CountLegal d → ⊥) → Answered (unsoundRefusals d) d (UnsoundCount (d .cores))
   tells-count n = record {
     answer = broken 21 _ (omega arith) n (omega arith);
-    place = record {
-      count = λ _. refl;
-      slot = λ e. absurd (omega arith);
-      order = λ e. absurd (omega arith);
-      missing = λ e. absurd (omega arith);
-      seat = λ e. absurd (omega arith);
-      other = λ out. absurd (out (inl refl));
-    };
+    place = record { told = ((λ _. refl), λ z. absurd (z refl)) };
   }
 
   pub tells-slot : CountLegal d → {s : ℕ} → Lowest slotLimit (SlotKept d) s → Answered (unsoundRefusals d) d (UnsoundSlot s)
   tells-slot counted low = record {
     answer = kept 21 _ counted (broken 22 _ (omega arith) (not-all low) (omega arith));
-    place = record {
-      count = λ e. absurd (omega arith);
-      slot = λ _. low;
-      order = λ e. absurd (omega arith);
-      missing = λ e. absurd (omega arith);
-      seat = λ e. absurd (omega arith);
-      other = λ out. absurd (out (inr (inl refl)));
-    };
+    place = record { told = ((λ e. absurd (omega arith)), λ _. ((λ _. low), λ z. absurd (z refl))) };
   }
 
   pub tells-place : CountLegal d → SlotsLegal d → {k : ℕ} → Lowest slotLimit (PlaceKept d) k → Answered (unsoundRefusals d) d (UnsoundPlace k)
   tells-place counted legal low = record {
     answer = kept 21 _ counted (kept 22 _ legal (broken 23 _ (omega arith) (not-all low) (omega arith)));
-    place = record {
-      count = λ e. absurd (omega arith);
-      slot = λ e. absurd (omega arith);
-      order = λ _. low;
-      missing = λ e. absurd (omega arith);
-      seat = λ e. absurd (omega arith);
-      other = λ out. absurd (out (inr (inr (inl refl))));
-    };
+    place = record { told = ((λ e. absurd (omega arith)), λ _. ((λ e. absurd (omega arith)), λ _. ((λ _. low), λ z. absurd (z refl)))) };
   }
 
   pub tells-missing : CountLegal d → SlotsLegal d → OrderKept d → {c : ℕ} → Lowest coreLimit (MissingKept d) c → Answered (unsoundRefusals d) d (UnsoundMissingCore c)
   tells-missing counted legal ordered low = record {
     answer = kept 21 _ counted (kept 22 _ legal (kept 23 _ ordered (broken 24 _ (omega arith) (not-all low) (omega arith))));
-    place = record {
-      count = λ e. absurd (omega arith);
-      slot = λ e. absurd (omega arith);
-      order = λ e. absurd (omega arith);
-      missing = λ _. low;
-      seat = λ e. absurd (omega arith);
-      other = λ out. absurd (out (inr (inr (inr (inl refl)))));
-    };
+    place = record { told = ((λ e. absurd (omega arith)), λ _. ((λ e. absurd (omega arith)), λ _. ((λ e. absurd (omega arith)), λ _. ((λ _. low), λ z. absurd (z refl))))) };
   }
 
   pub tells-seat : CountLegal d → SlotsLegal d → OrderKept d → MissingIdle d → {c : ℕ} → Lowest coreLimit (SeatKept d) c → Answered (unsoundRefusals d) d (UnsoundSeat c)
   tells-seat counted legal ordered idle low = record {
     answer = kept 21 _ counted (kept 22 _ legal (kept 23 _ ordered (kept 24 _ idle (broken 25 _ (omega arith) (not-all low) (omega arith)))));
-    place = record {
-      count = λ e. absurd (omega arith);
-      slot = λ e. absurd (omega arith);
-      order = λ e. absurd (omega arith);
-      missing = λ e. absurd (omega arith);
-      seat = λ _. low;
-      other = λ out. absurd (out (inr (inr (inr (inr (inl refl))))));
-    };
+    place = record { told = ((λ e. absurd (omega arith)), λ _. ((λ e. absurd (omega arith)), λ _. ((λ e. absurd (omega arith)), λ _. ((λ e. absurd (omega arith)), λ _. ((λ _. low), λ z. absurd (z refl)))))) };
   }
