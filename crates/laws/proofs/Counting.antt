@@ -116,6 +116,43 @@ count-without f c (suc n) l t = go (ℕ-discrete n c) (λ l′. count-without f 
         let b : without f c n ≡ f n = without-other f c h in
         rw b (let k = ih (omega arith) in omega arith)
 
+-- a test that passes more
+
+bit-mono : (a b : Bool) → (a ≡ true → b ≡ true) → bit a ≤ bit b
+bit-mono true b h = rw (h refl) (omega arith)
+bit-mono false b h = omega arith
+
+pub count-mono : (f g : ℕ → Bool) (n : ℕ) → ((c : ℕ) → f c ≡ true → g c ≡ true) → count f n ≤ count g n
+count-mono f g zero h = omega arith
+count-mono f g (suc n) h = let a = bit-mono (f n) (g n) (h n) in let b = count-mono f g n h in omega arith
+
+pub count-more : (f g : ℕ → Bool) (n c : ℕ) → ((a : ℕ) → f a ≡ true → g a ≡ true) → c < n → g c ≡ true → f c ≡ false → count f n < count g n
+count-more f g n c h l t o =
+    let a = count-without g c n l t in
+    let b = count-mono f (without g c) n (λ a i. without-other g c (λ q. clash i (rw q o)) ∙ h a i) in
+    omega arith
+
+-- each number below n that passes f has one below m that passes g, and no two have the same
+pub count-inject : (f g : ℕ → Bool) (n m : ℕ) (M : ℕ → ℕ → Type 0) → ((c : ℕ) → c < n → f c ≡ true → (d : ℕ) × (d < m) × (g d ≡ true) × M c d)
+    → ((a b d : ℕ) → M a d → M b d → a ≡ b) → count f n ≤ count g m
+count-inject f g zero m M h u = omega arith
+count-inject f g (suc n) m M h u = go (cases (f n)) (λ g′ h′. count-inject f g′ n m M h′ u)
+  where
+    go : (f n ≡ true) ⊎ (f n ≡ false) → ((g′ : ℕ → Bool) → ((c : ℕ) → c < n → f c ≡ true → (d : ℕ) × (d < m) × (g′ d ≡ true) × M c d) → count f n ≤ count g′ m)
+        → bit (f n) + count f n ≤ count g m
+    go (inr k) ih = rw k (let a = ih g (λ c l t. h c (omega arith) t) in omega arith)
+    go (inl k) ih = rw k (let a = ih (without g d) other in let b = count-without g d m (at .1) (at .2) in omega arith)
+      where
+        at : (d : ℕ) × (d < m) × (g d ≡ true) × M n d
+        at = h n (omega arith) k
+
+        d : ℕ
+        d = at .0
+
+        other : (c : ℕ) → c < n → f c ≡ true → (d′ : ℕ) × (d′ < m) × (without g d d′ ≡ true) × M c d′
+        other c l t = let r = h c (omega arith) t in
+            (r .0, r .1, without-other g d (λ q. let z : c ≡ n = u c n d (rw q at (r .3)) (at .3) in omega arith) ∙ r .2, r .3)
+
 -- A list of different numbers below n that all pass the test is no longer than the count;
 pub length-le-count : (p : List ℕ) (f : ℕ → Bool) (n : ℕ) → Distinct p → ((c : ℕ) → In c p → (c < n) × (f c ≡ true)) → length p ≤ count f n
 length-le-count [] f n d h = omega arith

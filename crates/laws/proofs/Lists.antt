@@ -5,7 +5,7 @@ use mathlib.Core.Logic.{_⊎_, inl, inr}
 use mathlib.Core.List.{List, [], _∷_, _++_}
 use native.Mathlib.Decide.{ℕ-discrete}
 use native.Mathlib.Nat.{not-suc-le-zero, le-of-suc-le-suc}
-use lib.ListN.{length, getD}
+use lib.ListN.{length, getD, replicate}
 use Rattle.laws.specs.Lists.{In, All, Any}
 
 -- below the length it does not matter what would stand beyond it
@@ -19,6 +19,12 @@ pub getD-beyond : {A : Type 0} (l : List A) (i : ℕ) (a : A) → length l ≤ i
 getD-beyond [] i a h = refl
 getD-beyond (x ∷ l) zero a h = absurd (not-suc-le-zero h)
 getD-beyond (x ∷ l) (suc i) a h = getD-beyond l i a (le-of-suc-le-suc h)
+
+-- where one value stands everywhere, it is read at every place, beyond the end too
+pub getD-all : {A : Type 0} (n : ℕ) (a : A) (i : ℕ) → getD (replicate n a) i a ≡ a
+getD-all zero a i = refl
+getD-all (suc n) a zero = refl
+getD-all (suc n) a (suc i) = getD-all n a i
 
 -- what holds of each holds of the one at place i
 pub all-at : {A : Type 0} (P : A → Type 0) (l : List A) (a : A) → All P l → (i : ℕ) → i < length l → P (getD l i a)

@@ -198,8 +198,12 @@ module _ {n e : ℕ} {may : ℕ → ℕ → Bool} {rank : ℕ → ℕ} {s s′ :
 
 -- ---- a task arrives
 
-legal-more : {n e : ℕ} {may : ℕ → ℕ → Bool} {R R′ : ℕ → Type 0} {s : ℕ → ℕ} → ((t : ℕ) → R t → R′ t) → Legal n e may R s → Legal n e may R′ s
+pub legal-more : {n e : ℕ} {may : ℕ → ℕ → Bool} {R R′ : ℕ → Type 0} {s : ℕ → ℕ} → ((t : ℕ) → R t → R′ t) → Legal n e may R s → Legal n e may R′ s
 legal-more {s = s} h L = record { ready = λ c l q. h (s c) (L .ready c l q); allowed = L .allowed; once = L .once }
+
+pub settled-iff : {n e : ℕ} {may : ℕ → ℕ → Bool} {rank : ℕ → ℕ} {R R′ : ℕ → Type 0} {s : ℕ → ℕ} → ((t : ℕ) → R t → R′ t) → ((t : ℕ) → R′ t → R t)
+    → Settled n e may rank R s → Settled n e may rank R′ s
+settled-iff f g H = record { legal = legal-more f (H .legal); shut = λ w u. H .shut w (record { ready = g w (u .ready); off = u .off }) }
 
 module _ {n e : ℕ} {may : ℕ → ℕ → Bool} {rank : ℕ → ℕ} {R R′ : ℕ → Type 0} {s : ℕ → ℕ} {x : ℕ} (H : Settled n e may rank R s) (J : Joins R R′ x) where
   -- It waits, if the tasks on all the cores that it reaches come before it.

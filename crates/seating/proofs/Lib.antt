@@ -16,3 +16,8 @@ pub mod Once
 pub mod Legality
 pub mod Arriving
 pub mod Filling
+pub mod Place
+pub mod Seeking
+pub mod Turns
+pub mod Greedy
+pub mod Class

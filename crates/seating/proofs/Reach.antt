@@ -1,16 +1,16 @@
 -- The other way round: in a strong seating each waiting task is shut in, by the cores that it reaches.
 use Prim.Native.Nat.{ℕ, zero, suc, _+_, _≤_, _<_}
-use mathlib.Core.Path.{_≡_, refl, sym, _∙_, subst}
+use mathlib.Core.Path.{_≡_, refl, sym, subst}
 use mathlib.Core.Logic.{_⊎_, inl, inr, _≢_}
 use mathlib.Core.Bool.{Bool, true, false, not, _&&_, _||_}
 use mathlib.Core.List.{List, [], _∷_, _++_}
 use native.Mathlib.Omega.{arith}
 use lib.Dec.{eqb, ltb, ltb→lt, lt→ltb}
-use Rattle.laws.proofs.Counting.{any-find, any-true, count-le, count-without, find, in-dec, last-in, without, without-other}
+use Rattle.laws.proofs.Counting.{any-find, any-true, count-le, count-more, find, in-dec, last-in}
 use Rattle.laws.proofs.Deciding.{cases, clash}
 use Rattle.laws.proofs.Lists.{in-append}
 use Rattle.laws.proofs.Testing.{T-true, and-both, both-and, eqb-eq, eqb-false, eqb-ne, eqb-true, not-false, not-true, or-cases, or-left, or-right, true-T}
-use Rattle.laws.specs.Counting.{anyBelow, bit, count}
+use Rattle.laws.specs.Counting.{anyBelow, count}
 use Rattle.laws.specs.Lists.{Distinct, In, last}
 use Rattle.seating.proofs.Keep.{Cage, Settled}
 use Rattle.seating.proofs.Same.{links-inside}
@@ -19,22 +19,6 @@ use Rattle.seating.specs.Chain.{Links}
 use Rattle.seating.specs.Reached.{Reached}
 use Rattle.seating.specs.Running.{May, Waiting}
 use Rattle.seating.specs.Strong.{Legal}
-
--- ---- counts of a test that passes more
-
-bit-mono : (a b : Bool) → (a ≡ true → b ≡ true) → bit a ≤ bit b
-bit-mono true b h = rw (h refl) (omega arith)
-bit-mono false b h = omega arith
-
-pub count-mono : (f g : ℕ → Bool) (n : ℕ) → ((c : ℕ) → f c ≡ true → g c ≡ true) → count f n ≤ count g n
-count-mono f g zero h = omega arith
-count-mono f g (suc n) h = let a = bit-mono (f n) (g n) (h n) in let b = count-mono f g n h in omega arith
-
-pub count-more : (f g : ℕ → Bool) (n c : ℕ) → ((a : ℕ) → f a ≡ true → g a ≡ true) → c < n → g c ≡ true → f c ≡ false → count f n < count g n
-count-more f g n c h l t o =
-    let a = count-without g c n l t in
-    let b = count-mono f (without g c) n (λ a i. without-other g c (λ q. clash i (rw q o)) ∙ h a i) in
-    omega arith
 
 -- ---- a chain to a core, and one step more
 

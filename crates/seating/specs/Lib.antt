@@ -8,3 +8,5 @@ pub mod Arrival
 pub mod Filling
 pub mod Strong
 pub mod Least
+pub mod Greedy
+pub mod Class

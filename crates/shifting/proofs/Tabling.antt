@@ -4,13 +4,13 @@ use mathlib.Core.Path.{_≡_, refl, sym, ap, _∙_}
 use mathlib.Core.Logic.{_≢_}
 use mathlib.Core.Bool.{Bool, true, false, _||_}
 use mathlib.Core.List.{List}
-use native.Mathlib.Decide.{ℕ-discrete, decLt}
+use native.Mathlib.Decide.{ℕ-discrete}
 use native.Mathlib.Omega.{arith}
 use lib.Dec.{eqb}
-use lib.ListN.{length, getD, set, replicate, length-set, length-replicate, getD-replicate}
+use lib.ListN.{length, getD, set, replicate, length-set, length-replicate}
 use lib.Seq.{getD-set-same, getD-set-other}
 use borrow.Author.Tests.{eq-eqb, ne-eqb, lt-ltb}
-use Rattle.laws.proofs.Lists.{getD-beyond}
+use Rattle.laws.proofs.Lists.{getD-all, getD-beyond}
 use Rattle.masks.specs.Masks.{width, has, Added}
 use Rattle.masks.proofs.Bits.{has-zero}
 use Rattle.dispatcher.specs.Limits.{coreLimit, slotLimit, none}
@@ -27,14 +27,7 @@ pub record SittersTo (d : Dispatcher) (i : ℕ) (masks : List ℕ) : Type 0 wher
   pub rest : (c : ℕ) → i ≤ c → getD masks c 0 ≡ 0
 
 pub sitters-start : (d : Dispatcher) → SittersTo d 0 (replicate coreLimit 0)
-sitters-start d = record { size = length-replicate {A = ℕ} coreLimit 0; done = λ c l. absurd (omega arith); rest = λ c l. zeros c }
-  where
-    go : (c : ℕ) → Dec (c < coreLimit) → _≡_ {A = ℕ} (getD (replicate coreLimit 0) c 0) 0
-    go c (yes k) = getD-replicate coreLimit c 0 0 k
-    go c (no k) = getD-beyond (replicate coreLimit 0) c 0 (rw (length-replicate {A = ℕ} coreLimit 0) (omega arith))
-
-    zeros : (c : ℕ) → _≡_ {A = ℕ} (getD (replicate coreLimit 0) c 0) 0
-    zeros c = go c (decLt c coreLimit)
+sitters-start d = record { size = length-replicate {A = ℕ} coreLimit 0; done = λ c l. absurd (omega arith); rest = λ c l. getD-all {A = ℕ} coreLimit 0 c }
 
 module _ {d : Dispatcher} {i : ℕ} {masks : List ℕ} (l : i < coreLimit) (S : SittersTo d i masks) where
   pub sitters-held : {m : ℕ} → m ≡ taskAt d (seatAt d i) .mask → SittersTo d (i + 1) (set masks i m)
