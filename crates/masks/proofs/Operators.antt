@@ -17,13 +17,13 @@ use Rattle.laws.proofs.Testing.{and-both, both-and}
 use Rattle.masks.specs.Masks.{has}
 use Rattle.masks.proofs.Bits.{has-shifted, has-zero, below-power, some-bit}
 
-lowest-bit : (m : ℕ) → m / 2 ^ 0 % 2 ≡ m % 2
+pub lowest-bit : (m : ℕ) → m / 2 ^ 0 % 2 ≡ m % 2
 lowest-bit m = omega arith
 
-half-shr : (m k : ℕ) → m / 2 ^ suc k ≡ m / 2 / 2 ^ k
+pub half-shr : (m k : ℕ) → m / 2 ^ suc k ≡ m / 2 / 2 ^ k
 half-shr m k = rw (← one-add k) (sym (shr-shr m 1 k))
 
-bit-lt : (m : ℕ) → m % 2 < 2
+pub bit-lt : (m : ℕ) → m % 2 < 2
 bit-lt m = omega arith
 
 -- ---- two masks met

@@ -2,7 +2,7 @@
 use Prim.Native.Nat.{ℕ, _/_, _%_, _^_, _≤_, _<_}
 use mathlib.Core.Path.{_≡_}
 use mathlib.Core.Logic.{_≢_}
-use mathlib.Core.Bool.{Bool, true, _||_, _&&_}
+use mathlib.Core.Bool.{Bool, true, false, _||_, _&&_}
 use lib.Dec.{eqb, ltb}
 
 -- how many bits a mask has
@@ -26,3 +26,9 @@ pub record LegalMask (count m : ℕ) : Type 0 where
 -- r has the cores of m, and the core c if a mask has such a bit
 pub record Added (m c r : ℕ) : Type 0 where
   pub each : (k : ℕ) → has r k ≡ (has m k || (eqb k c && ltb c width))
+
+-- of the cores that the mask m has and the mask marked has not, r is the lowest; the width where there is none
+pub record NextCore (m marked r : ℕ) : Type 0 where
+  pub within : r ≤ width
+  pub unmarked : r < width → (has m r ≡ true) × (has marked r ≡ false)
+  pub lower : (k : ℕ) → k < r → has m k ≡ true → has marked k ≡ true

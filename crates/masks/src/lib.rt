@@ -1,7 +1,7 @@
 // Sets of cores as masks: bit k for core k.
 ghost use mathlib.Core.Path.{_≡_};
 ghost use Rattle.laws.specs.Decides.{Decides};
-ghost use Rattle.masks.specs.Masks.{has, NamesMissing, Added};
+ghost use Rattle.masks.specs.Masks.{has, NamesMissing, Added, NextCore};
 
 // The bits of a mask, and so the most cores that a set can name.
 pub const WIDTH: usize = 32;
@@ -37,4 +37,11 @@ pub fn add(mask: u32, core: usize) -> u32
     } else {
         mask | (1u32 << core)
     }
+}
+
+// The lowest core that the mask has and `marked` has not, or WIDTH.
+pub fn next_core(mask: u32, marked: u32) -> usize
+    ensures { λ r. ⌜ NextCore mask marked r ⌝ }
+{
+    u32::trailing_zeros(mask & !marked) as usize
 }
