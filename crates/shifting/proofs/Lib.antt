@@ -1,5 +1,5 @@
 mod Tabling
-mod Along
+pub mod Along
 mod Cores
 mod Seeking
 mod Deciding
