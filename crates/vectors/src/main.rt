@@ -1,4 +1,5 @@
-// Replays event files and compares what they print with stored lines. The arguments name pairs: an event file, and its lines.
+// Replays event files and compares what they print with stored lines, and the tasks that run after each call with those that the plain engine keeps. The
+// arguments name pairs: an event file, and its lines; ` ok` says that both are as they should be.
 use dispatcher::Answer;
 use dispatcher::Dispatcher;
 use files::Reading;
@@ -65,6 +66,38 @@ fn same_day(file: &[u8], cores: u8, calls: usize, stored: i32) -> bool {
     true
 }
 
+// Whether the plain engine keeps just the tasks that the dispatcher runs.
+fn agree(d: Dispatcher) -> bool {
+    let compared = engine::compare(d);
+    compared.slot == Dispatcher::NONE
+}
+
+// The dispatcher after call k.
+fn after_call(file: &[u8], k: usize, d: Dispatcher) -> Dispatcher {
+    let mut line = [0u8; Line::LONGEST];
+    let s = days::step(file, k, d, &mut line);
+    s.dispatcher
+}
+
+// Whether engine and dispatcher agree after each call of a day.
+fn agrees(file: &[u8], cores: u8, calls: usize) -> bool {
+    let fresh = Dispatcher::fresh(cores);
+    let mut d = fresh.dispatcher;
+    let mut k: usize = 0;
+    while k < calls {
+        d = after_call(file, k, d);
+        if !agree(d) {
+            return false;
+        }
+        k += 1;
+    }
+    true
+}
+
+fn right_day(file: &[u8], cores: u8, calls: usize, stored: i32) -> bool {
+    same_day(file, cores, calls, stored) && agrees(file, cores, calls)
+}
+
 fn same_fault(answer: Answer, offset: usize, stored: i32) -> bool {
     let mut line = [0u8; Line::LONGEST_FAULT];
     let w = lines::write_fault(answer.number(), offset, &mut line);
@@ -72,19 +105,19 @@ fn same_fault(answer: Answer, offset: usize, stored: i32) -> bool {
     goes_on(stored, &line[..length])
 }
 
-fn same_lines(file: &[u8], stored: i32) -> bool {
+fn right_lines(file: &[u8], stored: i32) -> bool {
     match files::read(file) {
         Reading::Layout {
             cores,
             records,
             events,
-        } => same_day(file, cores, records + events, stored),
+        } => right_day(file, cores, records + events, stored),
         Reading::Refused { answer, offset } => same_fault(answer, offset, stored),
     }
 }
 
-// Whether the event file prints the stored lines and no more; not so where either can't be opened.
-fn is_same(day: i32, stored: i32) -> bool {
+// Whether the event file prints the stored lines and no more, and engine and dispatcher agree; not so where either can't be opened.
+fn is_right(day: i32, stored: i32) -> bool {
     if day < 0 {
         return false;
     }
@@ -93,7 +126,7 @@ fn is_same(day: i32, stored: i32) -> bool {
     }
     let mut file = files::room();
     let n = io::read_full(day, &mut file);
-    if !same_lines(&file[..n], stored) {
+    if !right_lines(&file[..n], stored) {
         return false;
     }
     is_at_end(stored)
@@ -108,7 +141,7 @@ fn try_pair(day_at: usize, lines_at: usize) {
     let day_file = os::open_read(&day[..n]);
     let lines_file = os::open_read(&lines[..m]);
     io::write_all(STDOUT_FILENO, &day[..n]);
-    if is_same(day_file, lines_file) {
+    if is_right(day_file, lines_file) {
         io::write_all(STDOUT_FILENO, b" ok\n");
     } else {
         io::write_all(STDOUT_FILENO, b" differs\n");

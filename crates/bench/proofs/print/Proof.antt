@@ -1,11 +1,11 @@
--- `same_lines` is safe and ends: a file has few calls.
+-- `print` is safe and ends: a file has few calls.
 use mathlib.Core.Path.{subst}
 use native.Mathlib.Omega.{arith}
 use borrow.Author.Needs.{needs}
 use Rattle.files.specs.Reading.{Reads}
 use Rattle.files.proofs.Cutting.{few-calls}
-use Rattle.vectors.proofs.same_lines.Statement.{statement}
-use Rattle.vectors.proofs.same_lines.Tie as tie
+use Rattle.bench.proofs.print.Statement.{statement}
+use Rattle.bench.proofs.print.Tie as tie
 
 read-requires : tie.Need-read-requires
 read-requires c κs = search needs
@@ -13,8 +13,8 @@ read-requires c κs = search needs
 enum-known-cores : tie.Need-enum-known-cores
 enum-known-cores c = search needs
 
-add-same-day : tie.Need-add-same-day
-add-same-day c =
+add-print-day : tie.Need-add-print-day
+add-print-day c =
     let b = c .before .before .before .before .before .args .file .now in
     let read = c .before .cores .given in
     let bytes = c .before .before .before .before .shared-slice-known .given 1 .fits in
@@ -23,14 +23,14 @@ add-same-day c =
     in
     record { fits = omega (arith, few) }
 
-same-day-requires : tie.Need-same-day-requires
-same-day-requires c κs = search needs
+print-day-requires : tie.Need-print-day-requires
+print-day-requires c κs = search needs
 
 enum-known-answer : tie.Need-enum-known-answer
 enum-known-answer c = search needs
 
-same-fault-requires : tie.Need-same-fault-requires
-same-fault-requires c κs = search needs
+print-fault-requires : tie.Need-print-fault-requires
+print-fault-requires c κs = search needs
 
 returns : tie.Need-returns
 returns c = search needs
@@ -38,15 +38,15 @@ returns c = search needs
 returns-2 : tie.Need-returns-2
 returns-2 c = search needs
 
-pub same-lines-spec : {M : Type 1} → statement M
-same-lines-spec =
+pub print-spec : {M : Type 1} → statement M
+print-spec =
     tie.close
     (tie.spec
     read-requires
     enum-known-cores
-    add-same-day
-    same-day-requires
+    add-print-day
+    print-day-requires
     enum-known-answer
-    same-fault-requires
+    print-fault-requires
     returns
     returns-2)
