@@ -4,7 +4,7 @@
     python3 tools/engine.py
 
 holds the stored days (crates/vectors/data) to it: after each line the tasks that run must be those kept, and
-for no priority p a legal seating may run more tasks of p or above. Written from the paper alone and by
+for no priority p a legal seating may run more tasks of p or above. Written from the paper's words and by
 enumeration: no place is sought and nobody is asked to move; all assignments of cores to tasks are gone
 through, by the sets of cores that they take. That is done where the ready tasks name at most 16 cores. Every
 line, and so those of larger boards too, is shown by counting as well: tasks whose masks all lie within a set
