@@ -5,7 +5,7 @@ use mathlib.Core.Bool.{Bool, true, false, ◌&&◌}
 use mathlib.Core.List.{List, [], ◌∷◌}
 use lib.ListN.{take}
 use lib.Dec.{eqb, leb}
-use borrow.Author.Tests.{eqb_true, leb-true}
+use borrow.Author.Tests.{eqb-true, leb-true}
 use Rattle.laws.specs.Counting.{any_below}
 use Rattle.laws.proofs.Deciding.{clash}
 use Rattle.laws.proofs.Picking.{pick}
@@ -48,7 +48,7 @@ same_list [] (b ∷ m) h = clash h refl
 same_list (a ∷ l) [] h = clash h refl
 same_list (a ∷ l) (b ∷ m) h =
     let k = both (eqb a b) (same_list_lem l m) h in
-    let p = eqb_true a b k.0 in
+    let p = eqb-true a b k.0 in
     let q = same_list l m k.1 in
     cc
 
@@ -91,10 +91,10 @@ prints_yes l r h =
     let c = both (eqb r.report.started l.started) _ b.1 in
     let d = both (eqb r.report.stopped l.stopped) _ c.1 in
     record {
-      answer = eqb_true _ _ a.0;
-      moves = eqb_true _ _ b.0;
-      started = eqb_true _ _ c.0;
-      stopped = eqb_true _ _ d.0;
+      answer = eqb-true _ _ a.0;
+      moves = eqb-true _ _ b.0;
+      started = eqb-true _ _ c.0;
+      stopped = eqb-true _ _ d.0;
       seats = same_list _ _ d.1;
     }
 
@@ -121,7 +121,7 @@ holds c = let r = fresh_of (count_test c.cores) c.cores in eqb (number_of r.repo
 holds_yes : (c : Case) → holds c ≡ true → Holds c
 unfolding holds
 holds_yes c h = record {
-  answer = λ r f. ap (λ (x : Outcome). number_of x.report.answer) (freshly_same f model) ∙ eqb_true _ _ k.0;
+  answer = λ r f. ap (λ (x : Outcome). number_of x.report.answer) (freshly_same f model) ∙ eqb-true _ _ k.0;
   lines = λ r f. subst (λ (x : Outcome). Follows x.dispatcher c.lines) (freshly_same model f) (follows_yes _ c.lines (freshly_keeps model).0 (freshly_keeps model).1 k.1);
 }
   where

@@ -6,7 +6,7 @@ use mathlib.Core.Bool.{Bool, true, false, not, ◌&&◌, ◌||◌, true≢false}
 use native.Mathlib.Decide.{ℕ_discrete}
 use native.Mathlib.Omega.{arith}
 use lib.Dec.{eqb, ltb, leb}
-use borrow.Author.Tests.{eqb_true, eqb_false, ltb-true, ltb-false, leb-true, leb-false}
+use borrow.Author.Tests.{eqb-true, eqb-false, ltb-true, ltb-false, leb-true, leb-false}
 use Rattle.laws.specs.Decides.{Decides}
 use Rattle.laws.specs.Counting.{any_below}
 
@@ -61,7 +61,7 @@ decides_or {P} {Q} {a = false} {b} p q = decides_by inr left q
     left (inr h) = h
 
 pub decides_eq : (a b : ℕ) → Decides (a ≡ b) (eqb a b)
-decides_eq a b = record { yes = eqb_true a b; no = eqb_false a b }
+decides_eq a b = record { yes = eqb-true a b; no = eqb-false a b }
 
 pub decides_lt : (a b : ℕ) → Decides (a < b) (ltb a b)
 decides_lt a b = record { yes = ltb-true a b; no = λ f l. let g = ltb-false a b f in omega arith }

@@ -4,7 +4,7 @@ use native.Mathlib.Omega.{arith}
 use mathlib.Core.Path.{refl}
 use lib.ListN.{length}
 use borrow.Author.Rules.{rules}
-use borrow.Author.Tests.{not_true, not_false}
+use borrow.Author.Tests.{not-true, not-false}
 use Rattle.cpusets.specs.Characters.{character, IsDigit}
 use Rattle.cpulists.proofs.Numbers.{SoFar, none_yet, one_more, all_read, past_end}
 use Rattle.cpulists.proofs.digits.Statement.{statement}
@@ -26,10 +26,10 @@ is-digit-requires : tie.Need-is-digit-requires invariant-loop decreases-loop
 is-digit-requires c κs = search rules
 
 returns : tie.Need-returns invariant-loop decreases-loop
-returns c = all_read c.before.before.before.before.loop.invariant (c.before.is_digit_lem.ensures.no (not_true _ c.if1.true))
+returns c = all_read c.before.before.before.before.loop.invariant (c.before.is_digit_lem.ensures.no (not-true _ c.if1.true))
 
 digit : (c : tie.Else1 invariant-loop decreases-loop) → IsDigit (character c.before.before.before.before.before.before.args.text.now c.before.before.before.before.loop.end)
-digit c = c.before.is_digit_lem.ensures.yes (not_false _ c.if1.false)
+digit c = c.before.is_digit_lem.ensures.yes (not-false _ c.if1.false)
 
 sub_more : tie.Need-overflow-sub-more invariant-loop decreases-loop
 sub_more c = omega (arith, (digit c).0)

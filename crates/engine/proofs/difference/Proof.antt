@@ -5,7 +5,7 @@ use mathlib.Core.Logic.{⊎_elim}
 use native.Mathlib.Omega.{arith}
 use lib.ListN.{length, length-map, length-take}
 use borrow.Author.Rules.{rules}
-use borrow.Author.Tests.{not_true, not_false}
+use borrow.Author.Tests.{not-true, not-false}
 use Rattle.dispatcher.specs.Limits.{core_limit, slot_limit}
 use Rattle.engine.proofs.Comparing.{Counted, counted_all, counted_most, AlikeTo, alike_more, lowest_difference, no_difference}
 use Rattle.engine.proofs.difference.Statement.{statement}
@@ -64,7 +64,7 @@ returns : tie.Need-returns invariant-loop decreases-loop
 returns c =
     let i = c.before.before in
     let a = i.before.before in
-    lowest_difference (seats-long (start a)) (counted a.before.before) a.first-places.ensures (start a).args.t2 i.before.loop.invariant i.loop-test.true (c.before.alike.ensures.no (not_true _ c.if2.true))
+    lowest_difference (seats-long (start a)) (counted a.before.before) a.first-places.ensures (start a).args.t2 i.before.loop.invariant i.loop-test.true (c.before.alike.ensures.no (not-true _ c.if2.true))
 
 add-slot : tie.Need-overflow-add-slot invariant-loop decreases-loop
 add-slot c = search rules
@@ -75,7 +75,7 @@ loop-less c = search rules
 loop-again : tie.Need-loop-preserved invariant-loop decreases-loop
 loop-again c =
     let i = c.before.before in
-    alike_more i.before.loop.invariant i.loop-test.true (c.before.alike.ensures.yes (not_false _ c.if2.false))
+    alike_more i.before.loop.invariant i.loop-test.true (c.before.alike.ensures.yes (not-false _ c.if2.false))
 
 returns-2 : tie.Need-returns-2 invariant-loop decreases-loop
 returns-2 c =

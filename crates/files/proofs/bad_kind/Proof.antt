@@ -4,7 +4,7 @@ use native.Mathlib.Decide.{dec_lt}
 use native.Mathlib.Omega.{arith}
 use borrow.Author.Rules.{rules}
 use borrow.Author.Count.{below_more}
-use borrow.Author.Tests.{not_true, not_false}
+use borrow.Author.Tests.{not-true, not-false}
 use Rattle.files.specs.Events.{BadAt}
 use Rattle.files.proofs.bad_kind.Statement.{statement}
 use Rattle.files.proofs.bad_kind.Tie as tie
@@ -40,7 +40,7 @@ is-event-kind-requires c κs = search rules
 returns-2 : tie.Need-returns-2 invariant-loop decreases-loop
 returns-2 c = record {
   within = omega arith;
-  bad = λ l. record { there = c.before.before.before.if1.false; bad = c.before.is-event-kind.ensures.no (not_true _ c.if2.true) };
+  bad = λ l. record { there = c.before.before.before.if1.false; bad = c.before.is-event-kind.ensures.no (not-true _ c.if2.true) };
   lower = c.before.before.before.before.before.loop.invariant.1;
 }
 
@@ -53,7 +53,7 @@ loop-less c = search rules
 loop-again : tie.Need-loop-preserved invariant-loop decreases-loop
 loop-again c = (
   omega arith,
-  below_more _ _ c.before.before.before.before.before.loop.invariant.1 (λ b. b.bad (c.before.is-event-kind.ensures.yes (not_false _ c.if2.false))),
+  below_more _ _ c.before.before.before.before.before.loop.invariant.1 (λ b. b.bad (c.before.is-event-kind.ensures.yes (not-false _ c.if2.false))),
 )
 
 returns-3 : tie.Need-returns-3 invariant-loop decreases-loop

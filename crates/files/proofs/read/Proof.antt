@@ -3,7 +3,7 @@ use mathlib.Core.Path.{refl}
 use native.Mathlib.Omega.{arith}
 use mir.Facts.{Fits-widen}
 use borrow.Author.Rules.{rules}
-use borrow.Author.Tests.{not_true, not_false}
+use borrow.Author.Tests.{not-true, not-false}
 use Rattle.dispatcher.specs.Limits.{LegalCount}
 use Rattle.files.specs.Layout.{core_count}
 use Rattle.files.proofs.Verdicts.{bad_count, cut, many_events}
@@ -20,10 +20,10 @@ legal-count-requires : tie.Need-legal-count-requires
 legal-count-requires c κs = search rules
 
 returns-2 : tie.Need-returns-2
-returns-2 c = bad_count (omega (arith, c.before.before.before.if1.false)) (c.before.legal-count.ensures.no (not_true _ c.if2.true))
+returns-2 c = bad_count (omega (arith, c.before.before.before.if1.false)) (c.before.legal-count.ensures.no (not-true _ c.if2.true))
 
 legal : (c : tie.Else2) → LegalCount (core_count c.before.before.before.before.before.args.file.now)
-legal c = c.before.legal-count.ensures.yes (not_false _ c.if2.false)
+legal c = c.before.legal-count.ensures.yes (not-false _ c.if2.false)
 
 returns-3 : tie.Need-returns-3
 returns-3 c = cut (λ l. legal c.before) (omega (arith, c.if3.true))

@@ -3,7 +3,7 @@ use mathlib.Core.Path.{refl, sym}
 use native.Mathlib.Omega.{arith}
 use lib.Seq.{length-take-le}
 use borrow.Author.Rules.{rules}
-use borrow.Author.Tests.{not_true, not_false}
+use borrow.Author.Tests.{not-true, not-false}
 use Rattle.laws.proofs.Answering.{answers_one, answers_none}
 use Rattle.lines.proofs.Standing.{stands_refused, stands_done}
 use Rattle.lines.proofs.hand_over.Statement.{statement}
@@ -18,7 +18,7 @@ same_length c = search rules
 returns : tie.Need-returns
 returns c =
     let handed = c.before.before.before.hand-over.ensures in
-    let none = not_true _ c.if1.true in
+    let none = not-true _ c.if1.true in
     rw (handed.kept none) (stands_refused (answers_one 15 (omega arith) (omega (arith, handed.room.no none))) (λ z. omega arith) refl)
 
 same-length-2 : tie.Need-same-length-2
@@ -28,7 +28,7 @@ returns-2 : tie.Need-returns-2
 returns-2 c =
     let handed = c.before.before.before.hand-over.ensures in
     let e = c.before.before.before.before.before.before.before in
-    let room = not_false _ c.if1.false in
+    let room = not-false _ c.if1.false in
     stands_done (answers_none 15 (λ l. omega (arith, handed.room.yes room))) refl (sym (length-take-le _ _ e.requires)) (handed.written room)
 
 pub hand-over-spec : {M : Type 1} → statement M

@@ -2,7 +2,7 @@
 use mathlib.Core.Path.{sym, ◌∙◌}
 use native.Mathlib.Omega.{arith}
 use borrow.Author.Rules.{rules}
-use borrow.Author.Tests.{not_true, not_false}
+use borrow.Author.Tests.{not-true, not-false}
 use Rattle.laws.proofs.Answering.{answers_one, answers_none}
 use Rattle.tasks.proofs.Naming.{named_refused, named_then}
 use Rattle.readiness.proofs.block_answer.Statement.{statement}
@@ -23,12 +23,12 @@ is-ready-requires c κs = search rules
 returns-2 : tie.Need-returns-2
 returns-2 c =
     let passed = c.before.before in
-    named_then 10 (omega arith) passed.before.before.named.ensures (sym passed.before.number.ensures ∙ passed.if1.false) (answers_one 10 (omega arith) (c.before.is-ready.ensures.no (not_true _ c.if2.true)))
+    named_then 10 (omega arith) passed.before.before.named.ensures (sym passed.before.number.ensures ∙ passed.if1.false) (answers_one 10 (omega arith) (c.before.is-ready.ensures.no (not-true _ c.if2.true)))
 
 returns-3 : tie.Need-returns-3
 returns-3 c =
     let passed = c.before.before in
-    named_then 10 (omega arith) passed.before.before.named.ensures (sym passed.before.number.ensures ∙ passed.if1.false) (answers_none 10 (λ off. off (c.before.is-ready.ensures.yes (not_false _ c.if2.false))))
+    named_then 10 (omega arith) passed.before.before.named.ensures (sym passed.before.number.ensures ∙ passed.if1.false) (answers_none 10 (λ off. off (c.before.is-ready.ensures.yes (not-false _ c.if2.false))))
 
 pub block-answer-spec : {M : Type 1} → statement M
 block-answer-spec = tie.close (tie.spec named-requires number-requires returns is-ready-requires returns-2 returns-3)

@@ -5,7 +5,7 @@ use mathlib.Core.Logic.{◌≢◌}
 use native.Mathlib.Omega.{arith}
 use lib.ListN.{get_or, length-map}
 use borrow.Author.Rules.{rules}
-use borrow.Author.Tests.{not_true, not_false}
+use borrow.Author.Tests.{not-true, not-false}
 use Rattle.laws.proofs.Testing.{eqb_true}
 use Rattle.masks.specs.Masks.{Added}
 use Rattle.masks.proofs.Adding.{only_core}
@@ -105,7 +105,7 @@ returns-2 c =
     let b = c.before.before in
     let i = b.before.before.before.before.before in
     let a = i.before.before in
-    waits a (λ l k. b.comes-before.ensures.no (not_true _ c.before.if2.true) (subst (ComesBefore (d a) (start a).args.slot) (read a i.if1.false) k)) c.still2.ensures
+    waits a (λ l k. b.comes-before.ensures.no (not-true _ c.before.if2.true) (subst (ComesBefore (d a) (start a).args.slot) (read a i.if1.false) k)) c.still2.ensures
 
 add-requires : tie.Need-add-requires
 add-requires c κs = search rules
@@ -126,7 +126,7 @@ returns-3 c =
     let a = i.before.before in
     let e = start a in
     loser_pushed (shaped e) e.pre.arriving e.pre.sitters e.pre.full a.before.reached.ensures a.last_on.ensures i.if1.false c.before.before.add.ensures
-    (subst (ComesBefore (d a) e.args.slot) (sym (read a i.if1.false)) (b.comes-before.ensures.yes (not_false _ c.before.before.before.if2.false)))
+    (subst (ComesBefore (d a) e.args.slot) (sym (read a i.if1.false)) (b.comes-before.ensures.yes (not-false _ c.before.before.before.if2.false)))
     (chain a i.if1.false c.before.before.add.ensures c.before.search.ensures) (read a i.if1.false) c.taken.ensures
 
 pub push_spec : {M : Type 1} → statement M

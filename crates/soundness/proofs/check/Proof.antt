@@ -2,7 +2,7 @@
 use mathlib.Core.Path.{◌≡◌}
 use lib.ListN.{length, length-map}
 use borrow.Author.Rules.{rules}
-use borrow.Author.Tests.{not_true, not_false}
+use borrow.Author.Tests.{not-true, not-false}
 use Rattle.dispatcher.specs.Limits.{core_limit, slot_limit}
 use Rattle.dispatcher.specs.Sound.{CountLegal, SlotsLegal, PlaceKept, MissingKept, OrderKept, MissingIdle}
 use Rattle.dispatcher.proofs.Unsound.{sound_answered}
@@ -33,7 +33,7 @@ entry c = c.before.before
 -- ---- what holds once a test has passed
 
 counted : (c : tie.Else1) → CountLegal (entry c).args.d
-counted c = c.before.legal-count.ensures.yes (not_false _ c.if1.false)
+counted c = c.before.legal-count.ensures.yes (not-false _ c.if1.false)
 
 legal : (c : tie.Else2) → SlotsLegal (entry (first c)).args.d
 legal c = finds_none c.before.illegal-slot.ensures c.if2.false
@@ -83,7 +83,7 @@ cast-t14 : tie.Need-overflow-cast-t14
 cast-t14 c = search rules
 
 returns : tie.Need-returns
-returns c = tells_count (c.before.legal-count.ensures.no (not_true _ c.if1.true))
+returns c = tells_count (c.before.legal-count.ensures.no (not-true _ c.if1.true))
 
 illegal-slot-requires : tie.Need-illegal-slot-requires
 illegal-slot-requires c κs = search rules

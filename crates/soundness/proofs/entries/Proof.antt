@@ -7,7 +7,7 @@ use mathlib.Core.List.{List}
 use native.Mathlib.Omega.{arith}
 use lib.ListN.{get_or, length-map}
 use borrow.Author.Rules.{rules}
-use borrow.Author.Tests.{not_true, not_false}
+use borrow.Author.Tests.{not-true, not-false}
 use Rattle.laws.specs.Decides.{Decides}
 use Rattle.laws.proofs.Lists.{get_d_any}
 use Rattle.dispatcher.specs.Limits.{slot_limit, none}
@@ -86,7 +86,7 @@ is-entry-requires c κs = search rules
 returns-2 : tie.Need-returns-2 invariant-loop decreases-loop
 returns-2 c =
     let i = c.before.before.before.before in
-    record { all = i.before.loop.invariant; ends = λ _. (tested i c.before.before.if1.false c.before.is-entry.ensures).no (not_true _ c.if2.true) }
+    record { all = i.before.loop.invariant; ends = λ _. (tested i c.before.before.if1.false c.before.is-entry.ensures).no (not-true _ c.if2.true) }
 
 cast-places : tie.Need-overflow-cast-places invariant-loop decreases-loop
 cast-places c = search rules
@@ -107,7 +107,7 @@ loop-again : tie.Need-loop-preserved invariant-loop decreases-loop
 loop-again c =
     let i = c.before.before.before.before in
     let small = c.before.before.if1.false in
-    entry_more i.before.loop.invariant (read i) small (omega (arith, i.loop-test.true)) ((tested i small c.before.is-entry.ensures).yes (not_false _ c.if2.false))
+    entry_more i.before.loop.invariant (read i) small (omega (arith, i.loop-test.true)) ((tested i small c.before.is-entry.ensures).yes (not-false _ c.if2.false))
 
 returns-3 : tie.Need-returns-3 invariant-loop decreases-loop
 returns-3 c = record { all = c.before.loop.invariant; ends = λ l. absurd (omega (arith, l, c.loop-test.false)) }

@@ -4,7 +4,7 @@ use mathlib.Core.Logic.{⊎_elim}
 use native.Mathlib.Omega.{arith}
 use borrow.Author.Rules.{rules}
 use borrow.Author.Count.{below_more}
-use borrow.Author.Tests.{not_true, not_false}
+use borrow.Author.Tests.{not-true, not-false}
 use Rattle.dispatcher.specs.Limits.{slot_limit}
 use Rattle.dispatcher.specs.Sound.{SlotKept}
 use Rattle.soundness.proofs.illegal_slot.Statement.{statement}
@@ -50,7 +50,7 @@ returns-2 c =
     record {
       within = i.before.loop.invariant.0;
       lower = i.before.loop.invariant.1;
-      breaks = λ _ h. c.before.legal.ensures.no (not_true _ c.if3.true) (h (λ e. c.before.before.if1.false e.0));
+      breaks = λ _ h. c.before.legal.ensures.no (not-true _ c.if3.true) (h (λ e. c.before.before.if1.false e.0));
     }
 
 add-s : tie.Need-overflow-add-s invariant-loop decreases-loop
@@ -63,7 +63,7 @@ loop-again : tie.Need-loop-preserved invariant-loop decreases-loop
 loop-again c = (
   omega arith,
   below_more _ _ c.before.before.loop.invariant.1
-      (⊎_elim (λ w u. absurd (u (w.0.taken, w.1.left))) (λ w u. w.1.ensures.yes (not_false _ w.2.left)) c.if1.branch),
+      (⊎_elim (λ w u. absurd (u (w.0.taken, w.1.left))) (λ w u. w.1.ensures.yes (not-false _ w.2.left)) c.if1.branch),
 )
 
 returns-3 : tie.Need-returns-3 invariant-loop decreases-loop

@@ -8,7 +8,7 @@ use native.Mathlib.Omega.{arith}
 use lib.ListN.{get_or, length-map}
 use borrow.Author.Rules.{rules}
 use borrow.Author.Count.{below_more}
-use borrow.Author.Tests.{not_true, not_false}
+use borrow.Author.Tests.{not-true, not-false}
 use Rattle.laws.specs.Decides.{Decides}
 use Rattle.laws.proofs.Lists.{get_d_any}
 use Rattle.masks.specs.Masks.{has}
@@ -88,7 +88,7 @@ returns c =
     record {
       within = i.before.loop.invariant.0;
       lower = i.before.loop.invariant.1;
-      breaks = λ _. (tested i c.before.before.before.if1.true c.before.may-sit.ensures).no (not_true _ c.if2.true);
+      breaks = λ _. (tested i c.before.before.before.if1.true c.before.may-sit.ensures).no (not-true _ c.if2.true);
     }
 
 array-write-seated : tie.Need-array-write-seated invariant-loop decreases-loop
@@ -116,7 +116,7 @@ loop-again c =
     ⊎_elim
     (λ w. (
       omega arith,
-      below_more _ _ l.invariant.1 ((tested i w.0.taken w.2.ensures).yes (not_false _ w.3.left)),
+      below_more _ _ l.invariant.1 ((tested i w.0.taken w.2.ensures).yes (not-false _ w.3.left)),
       rw w.4 (marks_slot (read i) l.invariant.2 w.0.taken),
     ))
     (λ w. (

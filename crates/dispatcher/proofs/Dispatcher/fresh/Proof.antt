@@ -1,5 +1,5 @@
 -- `Dispatcher::fresh` meets its promise: it returns what the model does on the test of its count.
-use borrow.Author.Tests.{not_true, not_false}
+use borrow.Author.Tests.{not-true, not-false}
 use borrow.Author.Rules.{rules}
 use Rattle.laws.proofs.Deciding.{decides_is}
 use Rattle.dispatcher.proofs.Freshness.{freshly}
@@ -16,7 +16,7 @@ empty-requires : tie.Need-empty-requires
 empty-requires c κs = search rules
 
 returns : tie.Need-returns
-returns c = rw (c.before.still.ensures, c.empty.ensures) (freshly (decides_is (not_true _ c.before.before.if1.true) c.before.before.before.legal-count.ensures))
+returns c = rw (c.before.still.ensures, c.empty.ensures) (freshly (decides_is (not-true _ c.before.before.if1.true) c.before.before.before.legal-count.ensures))
 
 still-requires-2 : tie.Need-still-requires-2
 still-requires-2 c κs = search rules
@@ -25,7 +25,7 @@ empty-requires-2 : tie.Need-empty-requires-2
 empty-requires-2 c κs = search rules
 
 returns-2 : tie.Need-returns-2
-returns-2 c = rw (c.before.still2.ensures, c.empty2.ensures) (freshly (decides_is (not_false _ c.before.before.if1.false) c.before.before.before.legal-count.ensures))
+returns-2 c = rw (c.before.still2.ensures, c.empty2.ensures) (freshly (decides_is (not-false _ c.before.before.if1.false) c.before.before.before.legal-count.ensures))
 
 pub fresh-spec : {M : Type 1} → statement M
 fresh-spec =
