@@ -1,5 +1,6 @@
 // Reads an event file on standard input and replays it. After each call's line stands `agree`, or `differ SLOT` with the lowest slot that the plain engine keeps
 // and the dispatcher does not run, or the other way round; the last line counts the lines that agree. A refused file has the one line that says why.
+#![tactic(auto)]
 ghost use Rattle.std.specs.Prelude.{◌+◌, ◌≤◌, ◌<◌, ◌≡◌, ◌++◌, length};
 ghost use Rattle.texts.specs.Put.{Puts};
 ghost use Rattle.decimals.specs.Decimal.{decimal};

@@ -1,1 +1,2 @@
 // Promised in a row: definitions and theorems over the promises of the calls, and no code.
+#![tactic(auto)]

@@ -1,5 +1,6 @@
 // Turns core sets from one format of Linux cpuset(7) into the other, line by line, from standard input to standard output. Its first argument is the format
 // that it reads, `list` or `mask`; its second is the limit on cores, 1 to 64, and 32 where there is none. A line that is refused gives `refused N at OFFSET`.
+#![tactic(auto)]
 ghost use Rattle.std.specs.Prelude.{◌≤◌, ◌<◌, length};
 ghost use Rattle.masks.specs.Masks.{NamesMissing};
 ghost use Rattle.cpusets.specs.Limit.{cores_of};

@@ -1,4 +1,6 @@
 // Sets of cores as masks: bit k for core k.
+#![tactic(auto)]
+
 ghost use Rattle.std.specs.Prelude.{◌≡◌};
 ghost use Rattle.laws.specs.Decides.{Decides};
 ghost use Rattle.masks.specs.Masks.{has, NamesMissing, Added, NextCore};

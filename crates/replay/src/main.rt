@@ -1,4 +1,5 @@
 // Reads an event file on standard input and prints its day, a line for each call, or the one line that says why the file is refused.
+#![tactic(auto)]
 ghost use Rattle.replay.specs.Input.{Within};
 
 use dispatcher::{Answer, Dispatcher};

@@ -91,7 +91,8 @@ module _ (n e : ℕ) (s s' : ℕ → ℕ) where
       next : (a : ℕ) → In a (d ∷ p) → s a ≢ s' d
       next a i q =
           let a_is_c : c ≡ a = once c a l (shifts_below d p h.1 h.3 a i) h.0 (sym h.2 ∙ sym q) in
-          fresh (rw a_is_c i)
+          let P : ℕ → Type 0 = λ y. In y (d ∷ p) in
+          fresh (subst P (sym a_is_c) i)
 
   -- k steps of the walk, or fewer where it ends
   follow : (k t : ℕ) → Running n e s' t

@@ -187,11 +187,11 @@ module _ {n e : ℕ} {may : ℕ → ℕ → Bool} {R : ℕ → Type 0} {s s' : �
 
 pub took_legal : {n e : ℕ} {may : ℕ → ℕ → Bool} {R : ℕ → Type 0} {s s' : ℕ → ℕ} {x c : ℕ} {p : List ℕ}
     → Legal n e may R s → x ≢ e → R x → (Running n e s x → ⊥) → Took n e may s s' x c p → Legal n e may R s'
-took_legal {p = []} L real rx out k = put_legal L real rx k.chain.start out k.first (λ a q. k.off a (λ i. elim i [ inl j ↦ q j | inr j ↦ j ]))
+took_legal {s = s} {p = []} L real rx out k = put_legal L real rx k.chain.start out k.first (λ a q. k.off a (λ i. elim i [ inl j ↦ q j | inr j ↦ j ]))
 took_legal {n} {e} {may} {R} {s} {s'} {x} {c} {p = d ∷ p} L real rx out k =
     let q = k.chain.links.0 in
     let l = k.chain.start.0 in
-    took_legal {p = p} (put_legal L real rx k.chain.start out (upd_same s c x) (λ a h. upd_other s c x h)) q (L.ready c l q) gone (took_tail k)
+    took_legal {s = upd s c x} {p = p} (put_legal L real rx k.chain.start out (upd_same s c x) (λ a h. upd_other s c x h)) q (L.ready c l q) gone (took_tail k)
   where
     gone : Running n e (upd s c x) (s c) → ⊥
     gone r = go (ℕ_discrete r.core c)

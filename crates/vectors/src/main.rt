@@ -1,5 +1,6 @@
 // Replays event files and compares what they print with stored lines, and the tasks that run after each call with those that the plain engine keeps. The
 // arguments name pairs: an event file, and its lines; ` ok` says that both are as they should be.
+#![tactic(auto)]
 use dispatcher::{Answer, Dispatcher};
 use files::Reading;
 use libc::STDOUT_FILENO;
