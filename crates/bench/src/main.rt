@@ -13,7 +13,7 @@ use libc::{STDIN_FILENO, STDOUT_FILENO};
 use lines::Line;
 
 // Of the lines so far: how many agree, and the number and slot of the first that does not; its slot is NONE where there is none.
-#[derive(Drop)]
+#[derive(Clone, Copy)]
 struct Tally {
     agree: usize,
     line: usize,
@@ -102,7 +102,7 @@ fn print_last(t: Tally, lines: usize) -> bool {
 }
 
 // What a call left: whether its lines could be written, the lowest slot that differs or NONE, and the dispatcher.
-#[derive(Drop)]
+#[derive(Clone, Copy)]
 struct Made {
     printed: bool,
     slot: u16,

@@ -6,20 +6,20 @@ ghost use Rattle.boot.specs.Loading.{Begins, Advances, AdvancesAll, Ends};
 use dispatcher::{Answer, Dispatcher, Report, Task, TaskRecord};
 
 // The report of a load: the index of the first refused record, or 0.
-#[derive(Drop)]
+#[derive(Clone, Copy)]
 pub struct LoadReport {
     pub report: Report,
     pub index: usize,
 }
 
-#[derive(Drop)]
+#[derive(Clone, Copy)]
 pub struct Loaded {
     pub report: LoadReport,
     pub dispatcher: Dispatcher,
 }
 
 // How far a load has come: Done and the records so far in their slots, or the refusal.
-#[derive(Drop)]
+#[derive(Clone, Copy)]
 struct Loading {
     answer: Answer,
     index: usize,

@@ -12,7 +12,7 @@ use cpusets::{Reading, Written};
 use libc::{STDERR_FILENO, STDIN_FILENO, STDOUT_FILENO};
 
 // The format that is read; the other one is written.
-#[derive(Drop)]
+#[derive(Clone, Copy)]
 enum Format {
     List,
     Mask,
@@ -86,7 +86,7 @@ fn line_end(bytes: &[u8], from: usize) -> usize
 }
 
 // The place after the lines that were printed, or that one could not be.
-#[derive(Drop)]
+#[derive(Clone, Copy)]
 enum Printed {
     To(usize),
     Failed,
@@ -110,7 +110,7 @@ fn print_lines(bytes: &[u8], held: usize, format: Format, limit: u8) -> Printed
 }
 
 // How many bytes at the window's start belong to a line whose newline has not come, or that all is over.
-#[derive(Drop)]
+#[derive(Clone, Copy)]
 enum Held {
     Bytes(usize),
     Over,

@@ -17,14 +17,14 @@ use cpusets::{Answer, Reading, Written};
 pub const ROOM: usize = 3 * (cpusets::WIDTH as usize);
 
 // Digits from a place on: where they end, and what they say.
-#[derive(Drop)]
+#[derive(Clone, Copy)]
 struct Number {
     end: usize,
     value: u8,
 }
 
 // An item from its first core to its last, and where it ends; or why there is none, and where.
-#[derive(Drop)]
+#[derive(Clone, Copy)]
 struct Piece {
     answer: Answer,
     first: u8,
@@ -46,7 +46,7 @@ impl Piece {
 }
 
 // The next place to read, and the set so far; or why there is none, and where.
-#[derive(Drop)]
+#[derive(Clone, Copy)]
 struct Walk {
     answer: Answer,
     place: usize,

@@ -15,7 +15,7 @@ use cpusets::{Answer, Reading, Written};
 pub const ROOM: usize = 17;
 
 // The set so far, or why there is none.
-#[derive(Drop)]
+#[derive(Clone, Copy)]
 struct Walk {
     answer: Answer,
     set: u64,

@@ -10,7 +10,7 @@ ghost use Rattle.cpusets.specs.Reading.{plain_of};
 ghost use Rattle.cpusets.specs.Writing.{Equals, WritesText};
 
 // What a reader or a writer answers. `number` gives the number of request 2.
-#[derive(Drop)]
+#[derive(Clone, Copy)]
 pub enum Answer {
     Done,
     Unexpected,
@@ -34,7 +34,7 @@ impl Answer {
 }
 
 // The set that a text means, or why it means none, and where.
-#[derive(Drop)]
+#[derive(Clone, Copy)]
 pub enum Reading {
     Cores { set: u64 },
     Refused { answer: Answer, offset: usize },
@@ -42,7 +42,7 @@ pub enum Reading {
 
 // A reading for C: the number and the offset are 0 where a set was read, and the set is empty where none was.
 #[repr(C)]
-#[derive(Drop)]
+#[derive(Clone, Copy)]
 pub struct PlainReading {
     pub number: u8,
     pub offset: usize,
@@ -68,7 +68,7 @@ impl Reading {
     }
 }
 
-#[derive(Drop)]
+#[derive(Clone, Copy)]
 pub struct Written {
     pub answer: Answer,
     pub length: usize,

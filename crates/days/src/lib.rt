@@ -11,7 +11,7 @@ use files::{FileEvent, FileRecord};
 use lines::{Line, Written};
 
 // A call of a file.
-#[derive(Drop)]
+#[derive(Clone, Copy)]
 pub enum FileCall {
     Create { slot: u16, priority: u8, mask: u32 },
     Wake(u16),
@@ -20,13 +20,13 @@ pub enum FileCall {
     NoCall,
 }
 
-#[derive(Drop)]
+#[derive(Clone, Copy)]
 pub struct Stepped {
     pub written: Written,
     pub dispatcher: Dispatcher,
 }
 
-#[derive(Drop)]
+#[derive(Clone, Copy)]
 pub struct Replayed {
     // Why no further line was written: Done where the file has no further call.
     pub answer: Answer,

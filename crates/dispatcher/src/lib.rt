@@ -9,7 +9,7 @@ ghost use Rattle.dispatcher.specs.Reports.{still_of, plain_of};
 ghost use Rattle.dispatcher.specs.Fresh.{empty_of, Freshly};
 
 #[repr(C)]
-#[derive(Drop)]
+#[derive(Clone, Copy)]
 pub struct Task {
     pub priority: u8,
     pub mask: u32,
@@ -35,7 +35,7 @@ impl Task {
 }
 
 #[repr(C)]
-#[derive(Drop)]
+#[derive(Clone, Copy)]
 pub struct Dispatcher {
     pub cores: u8,
     // The task of each slot.
@@ -48,7 +48,7 @@ pub struct Dispatcher {
 
 // A task and the slot that it is to fill, as boot lists and event files name it.
 #[repr(C)]
-#[derive(Drop)]
+#[derive(Clone, Copy)]
 pub struct TaskRecord {
     pub slot: u16,
     pub priority: u8,
@@ -58,7 +58,7 @@ pub struct TaskRecord {
 // What a call answers. Those whose names begin with Unsound say why a dispatcher is not sound, and carry the count found or the lowest
 // slot, place or core. `number` gives the papers' number; 1, which once stood for all five, and 11, which delete of a ready task once gave,
 // are no answer's.
-#[derive(Drop)]
+#[derive(Clone, Copy)]
 pub enum Answer {
     Done,
     UnsoundCount(u16),
@@ -139,7 +139,7 @@ impl Answer {
     }
 }
 
-#[derive(Drop)]
+#[derive(Clone, Copy)]
 pub struct Report {
     pub answer: Answer,
     pub moves: u8,
@@ -150,7 +150,7 @@ pub struct Report {
 
 // A report for C: the answer's number and place in place of the answer.
 #[repr(C)]
-#[derive(Drop)]
+#[derive(Clone, Copy)]
 pub struct PlainReport {
     pub number: u8,
     pub moves: u8,
@@ -188,7 +188,7 @@ impl Report {
 }
 
 // What a call by value gives back.
-#[derive(Drop)]
+#[derive(Clone, Copy)]
 pub struct Outcome {
     pub report: Report,
     pub dispatcher: Dispatcher,

@@ -12,7 +12,7 @@ ghost use Rattle.engine.specs.Difference.{HasCore, Difference, Compares};
 use dispatcher::{Answer, Dispatcher};
 
 // What the engine keeps; nothing where the dispatcher is refused.
-#[derive(Drop)]
+#[derive(Clone, Copy)]
 pub struct Kept {
     pub answer: Answer,
     // Whether the task of each slot is kept.
@@ -22,7 +22,7 @@ pub struct Kept {
 }
 
 // Engine and dispatcher compared.
-#[derive(Drop)]
+#[derive(Clone, Copy)]
 pub struct Compared {
     pub answer: Answer,
     // The lowest slot that differs, or NONE; NONE too where the dispatcher is refused.
@@ -30,7 +30,7 @@ pub struct Compared {
 }
 
 // A search for a place: whether one was found, the cores that have been asked, and the slot on each core, or NONE.
-#[derive(Drop)]
+#[derive(Clone, Copy)]
 struct Seeking {
     found: bool,
     asked: u32,

@@ -9,7 +9,7 @@ ghost use Rattle.files.specs.Reading.{Reads, ReadsRecord, ReadsEvent};
 
 use dispatcher::{Answer, Dispatcher};
 
-#[derive(Drop)]
+#[derive(Clone, Copy)]
 pub enum Reading {
     Layout {
         cores: u8,
@@ -22,13 +22,13 @@ pub enum Reading {
     },
 }
 
-#[derive(Drop)]
+#[derive(Clone, Copy)]
 pub enum FileRecord {
     Record { slot: u16, priority: u8, mask: u32 },
     NoRecord,
 }
 
-#[derive(Drop)]
+#[derive(Clone, Copy)]
 pub enum FileEvent {
     Event { kind: u8, slot: u16 },
     NoEvent,

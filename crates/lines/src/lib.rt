@@ -11,7 +11,7 @@ use dispatcher::{Answer, Dispatcher, PlainReport};
 
 // What a line says besides the seats. The kind is 0 to 3 for create, wake, block, delete.
 #[repr(C)]
-#[derive(Drop)]
+#[derive(Clone, Copy)]
 pub struct Line {
     pub number: u32,
     pub kind: u8,
@@ -27,7 +27,7 @@ impl Line {
     pub const LONGEST_FAULT: usize = decimals::LONGEST_FAULT;
 }
 
-#[derive(Drop)]
+#[derive(Clone, Copy)]
 pub struct Written {
     pub answer: Answer,
     pub length: usize,

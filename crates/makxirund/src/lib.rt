@@ -28,14 +28,14 @@ use lines::{Line, Written};
 
 // What the soundness check says: number 0 and place 0, or which condition is broken and where.
 #[repr(C)]
-#[derive(Drop)]
+#[derive(Clone, Copy)]
 pub struct PlainAnswer {
     pub number: u8,
     pub place: u16,
 }
 
 #[repr(C)]
-#[derive(Drop)]
+#[derive(Clone, Copy)]
 pub struct PlainLoadReport {
     pub report: PlainReport,
     pub index: usize,
@@ -43,7 +43,7 @@ pub struct PlainLoadReport {
 
 // What the file reader says: number 0 and the layout, or a refusal and its offset.
 #[repr(C)]
-#[derive(Drop)]
+#[derive(Clone, Copy)]
 pub struct PlainLayout {
     pub number: u8,
     pub cores: u8,
@@ -53,7 +53,7 @@ pub struct PlainLayout {
 }
 
 #[repr(C)]
-#[derive(Drop)]
+#[derive(Clone, Copy)]
 pub struct PlainRecord {
     pub found: bool,
     pub slot: u16,
@@ -62,7 +62,7 @@ pub struct PlainRecord {
 }
 
 #[repr(C)]
-#[derive(Drop)]
+#[derive(Clone, Copy)]
 pub struct PlainEvent {
     pub found: bool,
     pub kind: u8,
@@ -70,7 +70,7 @@ pub struct PlainEvent {
 }
 
 #[repr(C)]
-#[derive(Drop)]
+#[derive(Clone, Copy)]
 pub struct PlainWritten {
     pub number: u8,
     pub place: u16,

@@ -8,7 +8,7 @@ use libc::{STDIN_FILENO, STDOUT_FILENO};
 use lines::Line;
 
 // What came on standard input, or that a read failed.
-#[derive(Drop)]
+#[derive(Clone, Copy)]
 enum Input {
     Bytes(usize),
     Failed,
@@ -34,7 +34,7 @@ fn read_input(file: &mut [u8]) -> Input
 }
 
 // Where a day stands: the next call, and the dispatcher before it.
-#[derive(Drop)]
+#[derive(Clone, Copy)]
 struct Place {
     next: usize,
     dispatcher: Dispatcher,

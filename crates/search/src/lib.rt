@@ -19,7 +19,7 @@ ghost use Rattle.search.specs.Spread.{Spread};
 const FAR: u8 = 255;
 
 // A chain of cores, in the first `length` places; or none was found.
-#[derive(Drop)]
+#[derive(Clone, Copy)]
 pub struct Route {
     pub found: bool,
     pub cores: [u8; masks::WIDTH],
@@ -27,7 +27,7 @@ pub struct Route {
 }
 
 // The marks after `limit` rounds, and the cores that have one.
-#[derive(Drop)]
+#[derive(Clone, Copy)]
 struct Marks {
     marks: [u8; masks::WIDTH],
     near: u32,

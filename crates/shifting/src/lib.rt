@@ -13,7 +13,7 @@ use dispatcher::Dispatcher;
 use search::Route;
 
 // The seats after a shift, and what a call reports of it.
-#[derive(Drop)]
+#[derive(Clone, Copy)]
 pub struct Shift {
     pub seats: [u16; Dispatcher::CORES],
     pub moves: u8,
@@ -23,7 +23,7 @@ pub struct Shift {
 }
 
 // The mask of the task on each core, and 0 for an idle core; and the idle cores, as a mask.
-#[derive(Drop)]
+#[derive(Clone, Copy)]
 struct Sitting {
     masks: [u32; Dispatcher::CORES],
     idle: u32,

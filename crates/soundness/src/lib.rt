@@ -51,7 +51,7 @@ fn illegal_slot(d: Dispatcher) -> usize
 }
 
 // The entries of the wake order: the place where they end, and for each slot the place among them where it stands, or NONE.
-#[derive(Drop)]
+#[derive(Clone, Copy)]
 struct Woken {
     end: usize,
     places: [u16; Dispatcher::SLOTS],

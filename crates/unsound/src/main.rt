@@ -103,7 +103,7 @@ fn dispatcher_of(dump: &[u8]) -> Dispatcher
 }
 
 // What a file holds: no dump, or one of which the check of soundness answers so.
-#[derive(Drop)]
+#[derive(Clone, Copy)]
 enum Verdict {
     NoDump,
     Judged(Answer),

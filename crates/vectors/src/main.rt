@@ -28,7 +28,7 @@ fn is_at_end(stored: i32) -> bool {
 }
 
 // Where a day stands: the next call, and the dispatcher before it.
-#[derive(Drop)]
+#[derive(Clone, Copy)]
 struct Place {
     next: usize,
     dispatcher: Dispatcher,

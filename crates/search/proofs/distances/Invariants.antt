@@ -1,0 +1,12 @@
+-- `distances` meets its promise: the marks are right for as many steps as there were rounds, by fewer steps no core of the start is near, and a round that adds no core is the last.
+use Prim.Native.Nat.{◌-◌}
+use native.Mathlib.Omega.{arith}
+use borrow.Author.Rules.{rules}
+use Rattle.search.proofs.Marking.{Rounds, rounds_start, rounds_met, rounds_next, rounds_stuck, rounds_over}
+use Rattle.search.proofs.distances.Given as goal
+
+abbrev pub invariant-loop-limit : goal.invariant-loop-limit
+invariant-loop-limit l = Rounds l.n l.masks l.start l.target l.marks l.near l.limit
+
+abbrev pub decreases-loop-limit : goal.decreases-loop-limit
+decreases-loop-limit l = l.n - l.limit

@@ -1,0 +1,14 @@
+-- `gathered` meets its promise: the mask has those of the cores below the loop's whose mark is small enough.
+use Prim.Native.Nat.{◌-◌, ◌≤◌}
+use mathlib.Core.Logic.{⊎_elim}
+use native.Mathlib.Omega.{arith}
+use borrow.Author.Rules.{rules}
+use Rattle.search.specs.Rounds.{Gathered}
+use Rattle.search.proofs.Gathering.{gathered_none, gathered_pass, gathered_add, gathered_all}
+use Rattle.search.proofs.gathered.Given as goal
+
+abbrev pub invariant-loop-c : goal.invariant-loop-c
+invariant-loop-c l = (l.c ≤ l.n) × Gathered l.marks l.limit l.c l.near
+
+abbrev pub decreases-loop-c : goal.decreases-loop-c
+decreases-loop-c l = l.n - l.c
