@@ -6,7 +6,7 @@ use Rattle.search.proofs.Taking.{Taking, taking_start, taking_next, taking_end}
 use Rattle.search.proofs.take_chain.Goals as goal
 
 pub loop-i-init : goal.loop-i-init
-loop-i-init c = taking_start c.args.seats c.args.length c.args.seats c.args.newcomer
+loop-i-init c = taking_start c.args.cores c.args.length c.args.seats c.args.newcomer
 
 pub bounds-cores-i : goal.bounds-cores-i
 bounds-cores-i c = omega (arith, c.requires.few)

@@ -1,0 +1,47 @@
+-- `Dispatcher::is_ready` meets its promise: `found` says whether the slot stands at a place below the loop's.
+use Prim.Native.Nat.{ℕ, ◌≤◌, ◌<◌, ◌-◌}
+use mathlib.Core.Path.{◌≡◌, refl, sym, ◌∙◌}
+use mathlib.Core.Logic.{◌≢◌, ⊎_elim}
+use mathlib.Core.Bool.{Bool, true, false}
+use native.Mathlib.Omega.{arith}
+use lib.ListN.{get_or, length-map}
+use borrow.Author.Rules.{rules}
+use borrow.Author.Count.{below_more}
+use Rattle.laws.proofs.Deciding.{clash, decides_false}
+use Rattle.dispatcher.specs.Limits.{slot_limit}
+use Rattle.dispatcher.specs.Slots.{order_at, Ready}
+use Rattle.dispatcher.specs.declared.Dispatcher.{Dispatcher}
+use Rattle.dispatcher.proofs.Reading.{order_read}
+use Rattle.dispatcher.proofs.Dispatcher.is_ready.Goals as goal
+
+record So-far (d : Dispatcher) (slot k : ℕ) (found : Bool) : Type 0 where
+  within : k ≤ slot_limit
+  yes : found ≡ true → Ready d slot
+  no : found ≡ false → (j : ℕ) → j < k → order_at d j ≢ slot
+
+pub returns-then-slot-ge-SLOTS : goal.returns-then-slot-ge-SLOTS
+returns-then-slot-ge-SLOTS c = decides_false (λ h. omega (arith, h.slot, c.if-slot-ge-SLOTS.true))
+
+pub loop-k-init : goal.loop-k-init
+loop-k-init c = record { within = omega arith; yes = λ f. clash f refl; no = λ _ j l. absurd (omega arith) }
+
+-- what is read is what stands there
+read : (c : tie.After-stands invariant-loop decreases-loop) → order_at c.args.t1 c.loop.k ≡ get_or c.args.t1.order c.loop.k 0
+read c =
+    let e = c in
+    order_read e.args.t1 c.loop.k (simp length-map at e.well_formed.0.1.1.1.1.0.1.0.1) c.loop-test.true
+
+pub loop-k-preserved : goal.loop-k-preserved
+loop-k-preserved c =
+    let l = c.loop-k in
+    let a = c.args in
+    let here = c.loop-k-test.true in
+    ⊎_elim
+    (λ w. rw w.1 (record { within = omega arith; yes = λ _. record { slot = omega arith; place = l.k; within = here; stands = read c ∙ w.0.taken }; no = λ f. clash refl f }))
+    (λ w. rw w.1 (record { within = omega arith; yes = l.invariant.yes; no = λ f. below_more _ _ (l.invariant.no f) (λ e. w.0.left (sym (read c) ∙ e)) }))
+    c.if-stands-slot.branch
+
+pub returns : goal.returns
+returns c =
+    let l = c.loop-k in
+    record { yes = l.invariant.yes; no = λ f h. l.invariant.no f h.place (omega (arith, h.within, c.loop-k-test.false)) h.stands }

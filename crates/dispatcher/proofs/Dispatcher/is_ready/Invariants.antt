@@ -1,0 +1,21 @@
+-- `Dispatcher::is_ready` meets its promise: `found` says whether the slot stands at a place below the loop's.
+use Prim.Native.Nat.{ℕ, ◌≤◌, ◌<◌, ◌-◌}
+use mathlib.Core.Path.{◌≡◌, refl, sym, ◌∙◌}
+use mathlib.Core.Logic.{◌≢◌, ⊎_elim}
+use mathlib.Core.Bool.{Bool, true, false}
+use native.Mathlib.Omega.{arith}
+use lib.ListN.{get_or, length-map}
+use borrow.Author.Rules.{rules}
+use borrow.Author.Count.{below_more}
+use Rattle.laws.proofs.Deciding.{clash, decides_false}
+use Rattle.dispatcher.specs.Limits.{slot_limit}
+use Rattle.dispatcher.specs.Slots.{order_at, Ready}
+use Rattle.dispatcher.specs.declared.Dispatcher.{Dispatcher}
+use Rattle.dispatcher.proofs.Reading.{order_read}
+use Rattle.dispatcher.proofs.Dispatcher.is_ready.Given as goal
+
+abbrev pub invariant-loop-k : goal.invariant-loop-k
+invariant-loop-k l = So-far l.self l.slot l.k l.found
+
+abbrev pub decreases-loop-k : goal.decreases-loop-k
+decreases-loop-k l = slot_limit - l.k
