@@ -8,6 +8,7 @@ use borrow.Author.Tests.{not-true, not-false}
 use Rattle.dispatcher.specs.Limits.{slot_limit}
 use Rattle.dispatcher.specs.Sound.{SlotKept}
 use Rattle.soundness.proofs.illegal_slot.Goals as goal
+use Rattle.soundness.proofs.illegal_slot.Goals.{then-priority-eq0+else-mask-ne0, else-priority-eq0+else-not-legal}
 
 pub loop-s-init : goal.loop-s-init
 loop-s-init c = (omega arith, λ j l. absurd (omega arith))
@@ -28,14 +29,17 @@ returns-then-not-legal c =
     record {
       within = i.loop-s.invariant.0;
       lower = i.loop-s.invariant.1;
-      breaks = λ _ h. c.legal.ensures.no (not-true _ c.if-not-legal.true) (h (λ e. c.if-priority-eq0.false e.0));
+      breaks = λ _ h. c.legal.ensures.no c.if-not-legal.true (h (λ e. c.if-priority-eq0.false e.0));
     }
 
 pub loop-s-preserved : goal.loop-s-preserved
 loop-s-preserved c = (
   omega arith,
   below_more _ _ c.loop-s.invariant.1
-      (⊎_elim (λ w u. absurd (u (w.0.taken, w.1.left))) (λ w u. w.1.ensures.yes (not-false _ w.2.left)) c.if-priority-eq0.branch),
+      (elim c.if-priority-eq0.branch [
+        then-priority-eq0+else-mask-ne0 w ↦ λ u. absurd (u (w.if-priority-eq0.true, w.if-mask-ne0.false))
+      | else-priority-eq0+else-not-legal w ↦ λ u. w.legal.ensures.yes w.if-not-legal.false
+      ]),
 )
 
 pub returns : goal.returns

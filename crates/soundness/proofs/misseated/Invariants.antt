@@ -25,24 +25,3 @@ invariant-loop-c l = (l.c ≤ l.count) × ((j : ℕ) → j < l.c → SeatKept l.
 
 abbrev pub decreases-loop-c : goal.decreases-loop-c
 decreases-loop-c l = l.count - l.c
-
-module _ (l.c : tie.In-loop invariant-loop decreases-loop) where
-  abbrev l.d : Dispatcher
-  l.d = l.c.before.before.args.t1
-
-  abbrev l.places : List ℕ
-  l.places = l.c.before.before.args.places.now
-
-  abbrev k : ℕ
-  k = l.c.before.loop.c
-
-  abbrev v : ℕ
-  v = get_or l.d.seats k 0
-
-  read : seat_at l.d k ≡ v
-  read = seat_read l.d k (simp length-map at l.c.before.before.well_formed.0.1.1.1.1.1.0.1.0.1) (omega (arith, l.c.loop-test.true, l.c.before.before.requires.0.1))
-
-  -- a slot sits there: what its test decides
-  tested : v < slot_limit
-      → {r : Bool} → Decides ((get_or l.c.before.loop.seated v false ≡ false) × (get_or l.places v 0 ≢ none) × (has (task_at l.d v).mask k ≡ true)) r → Decides (SeatKept l.d k) r
-  tested small = rw (get_d_any l.places v 0 none (rw l.c.before.before.requires.1.long small)) (seat_decides read l.c.before.loop.invariant.2 l.c.before.before.requires.1 small)

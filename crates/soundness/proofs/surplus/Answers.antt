@@ -17,20 +17,21 @@ returns-then-unused c = finds_all (c.unused.ensures.yes c.if-unused.true)
 pub loop-k-init : goal.loop-k-init
 loop-k-init c = (omega arith, λ j l m. absurd (omega arith))
 
-read : (c : tie.In-loop invariant-loop decreases-loop) → get_or c.args.list.now c.loop.k none ≡ get_or c.args.list.now c.loop.k 0
-read c = get_d_any c.args.list.now c.loop.k none 0 c.loop-test.true
-
 pub returns-then-list-k-ne-NONE : goal.returns-then-list-k-ne-NONE
 returns-then-list-k-ne-NONE c =
     let i = c in
+    let read : get_or i.args.list.now i.loop-k.k none ≡ get_or i.args.list.now i.loop-k.k 0 = get_d_any i.args.list.now i.loop-k.k none 0 i.loop-k-test.true in
     record {
       within = omega (arith, i.loop-k-test.true);
       lower = i.loop-k.invariant.1;
-      breaks = λ _ h. omega (arith, c.if-list-k-ne-NONE.true, read i, h i.loop-k.invariant.0);
+      breaks = λ _ h. omega (arith, c.if-list-k-ne-NONE.true, read, h i.loop-k.invariant.0);
     }
 
 pub loop-k-preserved : goal.loop-k-preserved
-loop-k-preserved c = let i = c in (omega arith, below_more _ _ i.loop-k.invariant.1 (λ _. omega (arith, read i, c.if-list-k-ne-NONE.false)))
+loop-k-preserved c =
+    let i = c in
+    let read : get_or i.args.list.now i.loop-k.k none ≡ get_or i.args.list.now i.loop-k.k 0 = get_d_any i.args.list.now i.loop-k.k none 0 i.loop-k-test.true in
+    (omega arith, below_more _ _ i.loop-k.invariant.1 (λ _. omega (arith, read, c.if-list-k-ne-NONE.false)))
 
 pub returns : goal.returns
 returns c = finds_all (λ j l. c.loop-k.invariant.1 j (omega (arith, l, c.loop-k-test.false)))

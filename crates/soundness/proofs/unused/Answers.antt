@@ -15,21 +15,20 @@ use Rattle.laws.proofs.Lists.{get_d_any, get_d_beyond}
 use Rattle.dispatcher.specs.Limits.{none}
 use Rattle.soundness.specs.Parts.{UnusedFrom}
 use Rattle.soundness.proofs.unused.Goals as goal
+use Rattle.soundness.proofs.unused.Goals.{then-held-ne-NONE, else-held-ne-NONE}
 
 pub loop-i-init : goal.loop-i-init
 loop-i-init c = (omega arith, decides_true (λ j l m. absurd (omega arith)))
-
-read : (c : tie.In-loop invariant-loop decreases-loop) → get_or c.args.list.now c.loop.i none ≡ get_or c.args.list.now c.loop.i 0
-read c = get_d_any c.args.list.now c.loop.i none 0 c.loop-test.true
 
 pub loop-i-preserved : goal.loop-i-preserved
 loop-i-preserved c =
     let t = c in
     let l = t.loop-i in
-    ⊎_elim
-    (λ w. (omega arith, decides_is (sym w.1) (decides_false (λ h. omega (arith, w.0.taken, read t, h l.i (omega arith) l.invariant.0)))))
-    (λ w. (omega arith, decides_is (sym w.1) (decides_by (λ h. below_more _ _ h (λ _. omega (arith, w.0.left, read t))) (λ h j b. h j (omega arith)) l.invariant.1)))
-    c.if-held-ne-NONE.branch
+    let read : get_or t.args.list.now l.i none ≡ get_or t.args.list.now l.i 0 = get_d_any t.args.list.now l.i none 0 t.loop-i-test.true in
+    elim c.if-held-ne-NONE.branch [
+      then-held-ne-NONE w ↦ (omega arith, decides_is (sym w.all-is) (decides_false (λ h. omega (arith, w.if-held-ne-NONE.true, read, h l.i (omega arith) l.invariant.0))))
+    | else-held-ne-NONE w ↦ (omega arith, decides_is (sym w.all-is) (decides_by (λ h. below_more _ _ h (λ _. omega (arith, w.if-held-ne-NONE.false, read))) (λ h j b. h j (omega arith)) l.invariant.1))
+    ]
 
 -- beyond the list's end the mark stands anyway
 pub returns : goal.returns
