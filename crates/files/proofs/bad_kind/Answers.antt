@@ -21,14 +21,14 @@ returns-then-file-k c = record { within = omega arith; bad = λ l. absurd (omega
 pub returns-then-not-is_event_kind : goal.returns-then-not-is_event_kind
 returns-then-not-is_event_kind c = record {
   within = omega arith;
-  bad = λ l. record { there = c.if-file-k.false; bad = c.is_event_kind.ensures.no (not-true _ c.if-not-is_event_kind.true) };
+  bad = λ l. record { there = c.if-file-k.false; bad = c.is_event_kind.ensures.no c.if-not-is_event_kind.true };
   lower = c.loop-i.invariant.1;
 }
 
 pub loop-i-preserved : goal.loop-i-preserved
 loop-i-preserved c = (
   omega arith,
-  below_more _ _ c.loop-i.invariant.1 (λ b. b.bad (c.is_event_kind.ensures.yes (not-false _ c.if-not-is_event_kind.false))),
+  below_more _ _ c.loop-i.invariant.1 (λ b. b.bad (c.is_event_kind.ensures.yes c.if-not-is_event_kind.false)),
 )
 
 pub returns : goal.returns

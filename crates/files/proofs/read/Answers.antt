@@ -13,13 +13,10 @@ pub returns-then-file-eq0 : goal.returns-then-file-eq0
 returns-then-file-eq0 c = cut (λ l. absurd (omega (arith, c.if-file-eq0.true))) (omega (arith, c.if-file-eq0.true))
 
 pub returns-then-not-legal_count : goal.returns-then-not-legal_count
-returns-then-not-legal_count c = bad_count (omega (arith, c.if-file-eq0.false)) (c.legal_count.ensures.no (not-true _ c.if-not-legal_count.true))
-
-legal : (c : tie.Else2) → LegalCount (core_count c.args.file.now)
-legal c = c.legal-count.ensures.yes (not-false _ c.if2.false)
+returns-then-not-legal_count c = bad_count (omega (arith, c.if-file-eq0.false)) (c.legal_count.ensures.no c.if-not-legal_count.true)
 
 pub returns-then-file-eq1 : goal.returns-then-file-eq1
-returns-then-file-eq1 c = cut (λ l. legal c) (omega (arith, c.if-file-eq1.true))
+returns-then-file-eq1 c = cut (λ l. c.legal_count.ensures.yes c.if-not-legal_count.false) (omega (arith, c.if-file-eq1.true))
 
 pub overflow_mul-count_at : goal.overflow_mul-count_at
 overflow_mul-count_at c = omega (arith, c.shared_slice_known-3-1.given 1)
@@ -31,12 +28,12 @@ pub overflow_add-count_at-2 : goal.overflow_add-count_at-2
 overflow_add-count_at-2 c = omega (arith, c.shared_slice_known-3-1.given 1)
 
 pub returns-then-file-count_at : goal.returns-then-file-count_at
-returns-then-file-count_at c = cut (λ l. legal c) c.if-file-count_at.true
+returns-then-file-count_at c = cut (λ l. c.legal_count.ensures.yes c.if-not-legal_count.false) c.if-file-count_at.true
 
 pub returns-then-events-gt-EVENTS : goal.returns-then-events-gt-EVENTS
 returns-then-events-gt-EVENTS c =
     many_events
-    (legal c)
+    (c.legal_count.ensures.yes c.if-not-legal_count.false)
     c.if-file-count_at.false
     (rw (← c.pair-events.ensures.0) c.if-events-gt-EVENTS.true)
 
@@ -44,7 +41,7 @@ pub read_events-requires : goal.read_events-requires
 read_events-requires c =
     record {
       cores_is = refl;
-      count = legal c;
+      count = c.legal_count.ensures.yes c.if-not-legal_count.false;
       records_is = refl;
       small = omega (arith, c.shared_slice_known-3-1.given 1);
       there = c.if-file-count_at.false;

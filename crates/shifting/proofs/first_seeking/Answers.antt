@@ -21,25 +21,17 @@ use Rattle.shifting.specs.Board.{Waits}
 use Rattle.shifting.specs.Picking.{rank_at, seek_test, FirstSeeking}
 use Rattle.shifting.proofs.Along.{Along, along_start, along_skip, along_new, along_keep, along_all, stands_ready, stays_ahead, falls_behind, ready_passed}
 use Rattle.shifting.proofs.Seeking.{wait_test, wait_tells, wait_small, ready_test_lem}
-use Rattle.shifting.proofs.first_seeking.Statement.{statement}
-use Rattle.shifting.proofs.first_seeking.Tie as tie
+use Rattle.shifting.proofs.first_seeking.Goals as goal
 
 abbrev FirstTo : Dispatcher → List ℕ → ℕ → ℕ → ℕ → ℕ → Type 0
 FirstTo d cores lead = Along (order_at d) (λ i. priority_of d (order_at d i)) (λ i j. leb (rank_at d (order_at d j)) (rank_at d (order_at d i))) (λ i. wait_test d cores lead (order_at d i)) none 0
 
-abbrev invariant-loop : tie.invariant-loop
-invariant-loop lead d n cores first₀ highest₀ k₀ first highest k = (k ≤ slot_limit) × FirstTo d cores lead k first highest
-
-abbrev decreases-loop : tie.decreases-loop
-decreases-loop lead d n cores first₀ highest₀ k₀ first highest k = slot_limit - k
-
 seats-long : (e : tie.Start invariant-loop decreases-loop) → length e.args.t1.seats ≡ core_limit
 seats-long e = simp length-map at e.well_formed.0.1.1.1.1.1.0.1.0.1
 
--- at the loop: the dispatcher, and the cores on which slots sit
 module _ (a : tie.After-first-places invariant-loop decreases-loop) where
   abbrev start : tie.Start invariant-loop decreases-loop
-  start = a.before.before.before
+  start = a
 
   abbrev board : Dispatcher
   board = start.args.t1
@@ -65,49 +57,39 @@ module _ (a : tie.After-first-places invariant-loop decreases-loop) where
       told : (w : ℕ) → w < slot_limit → Decides (Waits board w × (bit_and (task_at board w).mask start.args.lead ≢ 0)) (wait_test board cores start.args.lead w)
       told w b = wait_tells shaped start.pre a.first-places.ensures b start.args.lead
 
-cast-n : tie.Need-overflow-cast-n invariant-loop decreases-loop
-cast-n c = search rules
+pub slice_bounds-seats-end : goal.slice_bounds-seats-end
+slice_bounds-seats-end c = omega (arith, seats-long c, c.requires.count.1)
 
-array-share-prefix-seats : tie.Need-array-share-prefix-seats invariant-loop decreases-loop
-array-share-prefix-seats c = omega (arith, seats-long c.before, c.before.requires.count.1)
+pub slice_bounds-first_places-end : goal.slice_bounds-first_places-end
+slice_bounds-first_places-end c = omega (arith, seats-long c, c.requires.count.1, length-take c.args.d.cores c.args.d.seats)
 
-slice-aggregate-first-places : tie.Need-slice-aggregate-first-places invariant-loop decreases-loop
-slice-aggregate-first-places c = omega (arith, seats-long c.before.before, c.before.before.requires.count.1, length-take c.before.before.args.t1.cores c.before.before.args.t1.seats)
+pub loop-k-init : goal.loop-k-init
+loop-k-init c = (omega arith, along_start)
 
-first-places-requires : tie.Need-first-places-requires invariant-loop decreases-loop
-first-places-requires c κs = search rules
+pub bounds-d-k : goal.bounds-d-k
+bounds-d-k c = search rules
 
-loop-holds : tie.Need-loop-init invariant-loop decreases-loop
-loop-holds c = (omega arith, along_start)
-
-mul-slot : tie.Need-overflow-mul-slot invariant-loop decreases-loop
-mul-slot c = search rules
-
-element-copy-out-slot : tie.Need-element-copy-out-slot invariant-loop decreases-loop
-element-copy-out-slot c = search rules
-
--- in a turn of the loop that finds a slot
 module _ (e : tie.Else1 invariant-loop decreases-loop) where
   abbrev at-loop : tie.After-first-places invariant-loop decreases-loop
-  at-loop = e.before.before.before.before
+  at-loop = e
 
   abbrev d : Dispatcher
   d = board at-loop
 
   abbrev place : ℕ
-  place = e.before.before.before.loop.k
+  place = e.loop-k.k
 
   abbrev slot : ℕ
   slot = get_or d.order place 0
 
   read : order_at d place ≡ slot
-  read = order_read d place (shaped at-loop).order e.before.before.loop-test.taken
+  read = order_read d place (shaped at-loop).order e.loop-k-test.taken
 
   held : order_at d place ≢ none
   held q = e.if1.left (sym read ∙ q)
 
   ready : Ready d slot
-  ready = rw read at (stands_ready (shaped at-loop) (start at-loop).pre e.before.before.loop-test.taken held)
+  ready = rw read at (stands_ready (shaped at-loop) (start at-loop).pre e.loop-k-test.taken held)
 
   small : slot < slot_limit
   small = ready.slot
@@ -118,44 +100,29 @@ module _ (e : tie.Else1 invariant-loop decreases-loop) where
   test : wait_test d (cores at-loop) (start at-loop).args.lead (order_at d place) ≡ seek_test (task_at d slot).mask (get_or (cores at-loop) slot 0) (start at-loop).args.lead
   test = ap (wait_test d (cores at-loop) (start at-loop).args.lead) read ∙ ready_test_lem (cores at-loop) (start at-loop).args.lead ready
 
-cast_t : tie.Need-overflow-cast-t invariant-loop decreases-loop
-cast_t c = search rules
+pub offset_bounds-d-slot : goal.offset_bounds-d-slot
+offset_bounds-d-slot c = omega (arith, small c)
 
-mul-t : tie.Need-overflow-mul-t invariant-loop decreases-loop
-mul-t c = omega (arith, small c)
+pub bounds-d-slot : goal.bounds-d-slot
+bounds-d-slot c = small c
 
-element-copy-out-t : tie.Need-element-copy-out-t invariant-loop decreases-loop
-element-copy-out-t c = small c
+pub offset_bounds-cores-slot : goal.offset_bounds-cores-slot
+offset_bounds-cores-slot c = omega (arith, small c)
 
-cast-seeks : tie.Need-overflow-cast-seeks invariant-loop decreases-loop
-cast-seeks c = search rules
+pub bounds-cores-slot : goal.bounds-cores-slot
+bounds-cores-slot c = small c
 
-mul-seeks : tie.Need-overflow-mul-seeks invariant-loop decreases-loop
-mul-seeks c = omega (arith, small c.before.before.before)
-
-array-read-seeks : tie.Need-array-read-seeks invariant-loop decreases-loop
-array-read-seeks c = small c.before.before.before
-
-seeks-requires : tie.Need-seeks-requires invariant-loop decreases-loop
-seeks-requires c κs = search rules
-
-add-k : tie.Need-overflow-add-k invariant-loop decreases-loop
-add-k c = search rules
-
-loop-less : tie.Need-loop-smaller invariant-loop decreases-loop
-loop-less c = search rules
-
-loop-again : tie.Need-loop-preserved invariant-loop decreases-loop
-loop-again c =
-    let e = c.before.before.before in
-    let l = e.before.before.before.loop in
+pub loop-k-preserved : goal.loop-k-preserved
+loop-k-preserved c =
+    let e = c in
+    let l = e.loop-k in
     let L = shaped (at-loop e) in
     let S = (start (at-loop e)).pre in
-    let low = e.before.before.loop-test.true in
+    let low = e.loop-k-test.true in
     let rank : ℕ → ℕ = λ i. rank_at (d e) (order_at (d e) i) in (
       omega arith,
       ⊎_elim
-          (λ w. let told : c.if2.highest ≡ priority_of (d e) (order_at (d e) (place e)) = omega (arith, w.4, weight e) in
+          (λ w. let told : c.if-highest-t.highest ≡ priority_of (d e) (order_at (d e) (place e)) = omega (arith, w.4, weight e) in
           rw (w.3 ∙ sym (read e), told)
           (along_new l.invariant.1 (omega arith) (turned (by_key rank)) (test e ∙ sym w.1.ensures ∙ w.2.taken)
           (λ p b t q. le-leb (rank (place e)) (rank p) (omega (arith, falls_behind L S b low (held e) (omega (arith, q, weight e, w.0.taken)))))))
@@ -164,41 +131,15 @@ loop-again c =
           (λ w. rw (w.1, w.2)
           (along_keep l.invariant.1 (λ z. omega (arith, z, w.0.left, (ready_priority S (ready e)).0))
           (λ _ p b t q. le-leb (rank p) (rank (place e)) (omega (arith, stays_ahead L S b low (held e) (omega (arith, q, weight e, w.0.left))))))))
-          c.if2.branch,
+          c.if-highest-t.branch,
     )
 
-returns : tie.Need-returns invariant-loop decreases-loop
-returns c =
-    let i = c.before.before in
-    let a = i.before.before in
-    let read = order_read (board a) i.before.loop.k (shaped a).order i.loop-test.true in
-    picked a i.before.loop.invariant.0 (inr (read ∙ c.if1.true)) i.before.loop.invariant.1
+pub returns-then-slot-eq-NONE : goal.returns-then-slot-eq-NONE
+returns-then-slot-eq-NONE c =
+    let i = c in
+    let a = i in
+    let read = order_read (board a) i.loop-k.k (shaped a).order i.loop-k-test.true in
+    picked a i.loop-k.invariant.0 (inr (read ∙ c.if-slot-eq-NONE.true)) i.loop-k.invariant.1
 
-returns-2 : tie.Need-returns-2 invariant-loop decreases-loop
-returns-2 c = picked c.before.before c.before.loop.invariant.0 (inl c.loop-test.false) c.before.loop.invariant.1
-
-pub first-seeking-spec : {M : Type 1} → statement M
-first-seeking-spec =
-    tie.close
-    (tie.spec
-    invariant-loop
-    decreases-loop
-    cast-n
-    array-share-prefix-seats
-    slice-aggregate-first-places
-    first-places-requires
-    loop-holds
-    mul-slot
-    element-copy-out-slot
-    returns
-    cast_t
-    mul-t
-    element-copy-out-t
-    cast-seeks
-    mul-seeks
-    array-read-seeks
-    seeks-requires
-    add-k
-    loop-less
-    loop-again
-    returns-2)
+pub returns : goal.returns
+returns c = picked c c.loop-k.invariant.0 (inl c.loop-k-test.false) c.loop-k.invariant.1
