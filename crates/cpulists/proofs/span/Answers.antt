@@ -1,28 +1,17 @@
--- `span` meets its contract: each turn adds one core. The measure is how many are left.
-use Prim.Native.Nat.{ℕ, ◌+◌, ◌-◌, ◌≤◌, ◌<◌}
+-- `span` meets its contract: each turn adds one core.
+use Prim.Native.Nat.{ℕ, ◌+◌, ◌≤◌}
 use mathlib.Core.Path.{◌≡◌, sym}
 use mathlib.Core.Logic.{◌⊎◌, inl, inr}
 use mathlib.Core.Bool.{true, false}
 use native.Mathlib.Decide.{ℕ_discrete}
 use native.Mathlib.Omega.{arith}
-use borrow.Author.Rules.{rules}
 use Rattle.laws.specs.Decides.{Decides}
 use Rattle.laws.proofs.Deciding.{decides_is, decides_by, decides_or, decides_eq, clash}
 use Rattle.masks.specs.Masks.{has}
 use Rattle.masks.proofs.Operators.{has_or, has_power, shl_one}
 use Rattle.cpusets.specs.Limit.{set_bits}
-use Rattle.cpulists.proofs.span.Statement.{statement}
-use Rattle.cpulists.proofs.span.Tie as tie
-
--- core k is in the set, or one of those from first on that are passed
-abbrev Now : ℕ → ℕ → ℕ → ℕ → Type 0
-Now set first c k = (has set k ≡ true) ⊎ ((first ≤ k) × (k < c))
-
-abbrev invariant-loop : tie.invariant-loop
-invariant-loop set first last r₀ c₀ r c = (first ≤ c) × (c ≤ last + 1) × ((k : ℕ) → Decides (Now set first c k) (has r k))
-
-abbrev decreases-loop : tie.decreases-loop
-decreases-loop set first last r₀ c₀ r c = last + 1 - c
+use Rattle.cpulists.proofs.span.Invariants.{Now}
+use Rattle.cpulists.proofs.span.Goals as goal
 
 before : (set first k : ℕ) → Decides (Now set first first k) (has set k)
 before set first k = record { yes = inl; no = λ f h. go f h }
@@ -44,37 +33,24 @@ back set first c k (inr h) = go (ℕ_discrete k c)
     go (yes e) = inr e
     go (no n) = inl (inr (h.0, omega (arith, h.1)))
 
-loop-holds : tie.Need-loop-init invariant-loop decreases-loop
-loop-holds c = (omega arith, omega (arith, c.requires.0), before c.args.set c.args.first)
+pub loop-c-init : goal.loop-c-init
+loop-c-init c = (omega arith, omega (arith, c.requires.0), before c.args.set c.args.first)
 
-cast-r : tie.Need-overflow-cast-r invariant-loop decreases-loop
-cast-r c = search rules
-
-shl-r : tie.Need-overflow-shl-r invariant-loop decreases-loop
-shl-r c = search rules
-
-add-c : tie.Need-overflow-add-c invariant-loop decreases-loop
-add-c c = search rules
-
-loop-less : tie.Need-loop-smaller invariant-loop decreases-loop
-loop-less c = search rules
-
-loop-again : tie.Need-loop-preserved invariant-loop decreases-loop
-loop-again c =
-    let l = c.before.loop in
-    let a = c.before.before in (
+pub loop-c-preserved : goal.loop-c-preserved
+loop-c-preserved c =
+    let l = c.loop-c in (
       omega (arith, l.invariant.0),
-      omega (arith, c.loop-test.true),
+      omega (arith, c.loop-c-test.true),
       λ k. decides_is
-          (sym (rw (shl_one set_bits l.c (omega (arith, c.loop-test.true, a.requires.1))) (rw (← has_power l.c k) (has_or l.r _ k))))
+          (sym (rw (shl_one set_bits l.c (omega (arith, c.loop-c-test.true, c.requires.1))) (rw (← has_power l.c k) (has_or l.r _ k))))
           (decides_by (after _ _ _ k l.invariant.0) (back _ _ _ k) (decides_or (l.invariant.2 k) (decides_eq k l.c))),
     )
 
-returns : tie.Need-returns invariant-loop decreases-loop
+pub returns : goal.returns
 returns c =
-    let l = c.before.loop in
-    let all : l.c ≡ c.before.before.args.last + 1 = omega (arith, c.loop-test.false, l.invariant.1) in
-    let a = c.before.before.args in
+    let l = c.loop-c in
+    let all : l.c ≡ c.args.last + 1 = omega (arith, c.loop-c-test.false, l.invariant.1) in
+    let a = c.args in
     record { each = λ k. decides_by (to a.set a.first a.last l.c all k) (from a.set a.first a.last l.c all k) (l.invariant.2 k) }
   where
     to : (set first last d : ℕ) → d ≡ last + 1 → (k : ℕ) → Now set first d k → (has set k ≡ true) ⊎ ((first ≤ k) × (k ≤ last))
@@ -84,6 +60,3 @@ returns c =
     from : (set first last d : ℕ) → d ≡ last + 1 → (k : ℕ) → (has set k ≡ true) ⊎ ((first ≤ k) × (k ≤ last)) → Now set first d k
     from set first last d e k (inl t) = inl t
     from set first last d e k (inr h) = inr (h.0, omega (arith, h.1))
-
-pub span-spec : {M : Type 1} → statement M
-span-spec = tie.close (tie.spec invariant-loop decreases-loop loop-holds cast-r shl-r add-c loop-less loop-again returns)
