@@ -1,4 +1,4 @@
--- A day as a whole: a well_formed file has one call for each record and event, and these calls from a fresh dispatcher have one text.
+-- A day as a whole: a well-formed file has one call for each record and event, and these calls from a fresh dispatcher have one text.
 use Prim.Native.Nat.{ℕ, zero, suc, ◌+◌, ◌-◌, ◌≤◌, ◌<◌}
 use mathlib.Core.Path.{◌≡◌, refl, sym}
 use mathlib.Core.Bool.{true}

@@ -47,7 +47,7 @@ pub record Replays (b : List ℕ) (k : ℕ) (d : Dispatcher) (before after : Lis
   pub written : after ≡ text ++ drop (length text) before
   pub stops : Stops b (k + made) r.dispatcher (drop (length text) before) r.answer
 
--- the lines of a day: one for each record and event of a well_formed file, on a fresh dispatcher of so many cores as it says
+-- the lines of a day: one for each record and event of a well-formed file, on a fresh dispatcher of so many cores as it says
 pub record DayText (b t : List ℕ) : Type 0 where
   pub well_formed : WellFormed b
   pub fresh : Outcome

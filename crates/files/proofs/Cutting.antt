@@ -1,4 +1,4 @@
--- A buffer of one byte more than the largest well_formed file decides every input: all that decides a longer file stands in its first bytes.
+-- A buffer of one byte more than the largest well-formed file decides every input: all that decides a longer file stands in its first bytes.
 use Prim.Native.Nat.{ℕ, ◌+◌, ◌≤◌, ◌<◌}
 use mathlib.Core.Path.{◌≡◌, refl, sym}
 use mathlib.Core.Logic.{inl, inr}
@@ -59,8 +59,9 @@ module _ {m : ℕ} {b c : List ℕ} (a : Agree m b c) where
       ))))
   same_faults l (inr (inr (inr (inr (inl (n, f)))))) =
       inr (inr (inr (inr (inl (n, record { at = omega (arith, same_records); there = omega (arith, same_records); many = omega (arith, same_events) })))))
+  same_faults l (inr (inr (inr (inr (inr n))))) = elim n [ ]
 
--- the first fault of a file that is longer than any well_formed one is before its end
+-- the first fault of a file that is longer than any well-formed one is before its end
 first_early : (b : List ℕ) {n o : ℕ} → record_count_of b ≤ 255 → largest_file < length b → FirstFault b n o → o < length b
 first_early b {n} {o} small large f = go f.there
   where
@@ -70,6 +71,7 @@ first_early b {n} {o} small large f = go f.there
     go (inr (inr (inl (n, f)))) = omega arith
     go (inr (inr (inr (inl (n, f))))) = omega arith
     go (inr (inr (inr (inr (inl (n, f)))))) = omega arith
+    go (inr (inr (inr (inr (inr n))))) = elim n [ ]
 
 module _ (b : List ℕ) (m : ℕ) (small : record_count_of b ≤ 255) (large : largest_file < m) where
   cut_longer : m < length b → (r : Reading) → Reads (take m b) r → Reads b r

@@ -1,4 +1,4 @@
--- A file is well formed exactly when it has no fault: each fault denies one demand on a well_formed file, and each demand can be tested.
+-- A file is well formed exactly when it has no fault: each fault denies one demand on a well-formed file, and each demand can be tested.
 use Prim.Native.Nat.{ℕ, ◌≤◌, ◌<◌}
 use mathlib.Core.Path.{◌≡◌, refl}
 use mathlib.Core.Logic.{inl, inr}
@@ -42,7 +42,7 @@ faultless_well_formed b none = go (dec_lt (length b) (end_place b)) (dec_lt (end
           whole = omega arith;
         }
 
--- ---- the reader accepts exactly the well_formed files
+-- ---- the reader accepts exactly the well-formed files
 
 pub accepted_well_formed : (b : List ℕ) (cores records events : ℕ) → Reads b (Layout cores records events) → WellFormed b
 accepted_well_formed b cores records events h = h.0

@@ -1,4 +1,4 @@
--- The three sections lie where the paper puts them: the file of a legal day is well formed and reads back, and each well_formed file is a day's.
+-- The three sections lie where the paper puts them: the file of a legal day is well formed and reads back, and each well-formed file is a day's.
 use Prim.Native.Nat.{ℕ, zero, suc, ◌+◌, ◌*◌, ◌/◌, ◌%◌, ◌^◌, ◌≤◌, ◌<◌}
 use mathlib.Core.Path.{◌≡◌, refl, sym, ap, ◌∙◌}
 use mathlib.Core.List.{List, [], ◌∷◌, ◌++◌}

@@ -1,4 +1,4 @@
--- Document 01, "Event file": a well_formed file, and the faults of any other, each with its number and its offset.
+-- Document 01, "Event file": a well-formed file, and the faults of any other, each with its number and its offset.
 use Rattle.std.specs.Prelude.{ℕ, ◌+◌, ◌≤◌, ◌<◌, ◌≡◌, List, [], ◌∷◌, length}
 use Rattle.laws.specs.Answering.{Refusal, ◌when◌, Applies}
 use Rattle.dispatcher.specs.Limits.{event_limit, LegalCount}

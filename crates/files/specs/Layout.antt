@@ -38,7 +38,7 @@ event_place b i = count_place b + 2 + 2 * i
 abbrev pub end_place : List ℕ → ℕ
 end_place b = event_place b (event_count b)
 
--- the length of the largest well_formed file: as many tasks as a byte counts, and as many events as there may be
+-- the length of the largest well-formed file: as many tasks as a byte counts, and as many events as there may be
 abbrev pub largest_file : ℕ
 largest_file = 2 + (2 + mask_bytes) * 255 + 2 + 2 * event_limit
 

@@ -10,7 +10,7 @@ use Rattle.files.specs.declared.FileRecord.TheVariants.{Record, NoRecord}
 use Rattle.files.specs.declared.FileEvent.{FileEvent}
 use Rattle.files.specs.declared.FileEvent.TheVariants.{Event, NoEvent}
 
--- a well_formed file has a layout, any other a first fault
+-- a well-formed file has a layout, any other a first fault
 abbrev pub Reads : List ℕ → Reading → Type 0
 Reads b (Layout cores records events) = WellFormed b × (cores ≡ core_count b) × (records ≡ record_count_of b) × (events ≡ event_count b)
 Reads b (Refused answer offset) = FirstFault b (number_of answer) offset

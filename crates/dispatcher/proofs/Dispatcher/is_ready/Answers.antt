@@ -13,11 +13,7 @@ use Rattle.dispatcher.specs.Slots.{order_at, Ready}
 use Rattle.dispatcher.specs.declared.Dispatcher.{Dispatcher}
 use Rattle.dispatcher.proofs.Reading.{order_read}
 use Rattle.dispatcher.proofs.Dispatcher.is_ready.Goals as goal
-
-record So-far (d : Dispatcher) (slot k : ℕ) (found : Bool) : Type 0 where
-  within : k ≤ slot_limit
-  yes : found ≡ true → Ready d slot
-  no : found ≡ false → (j : ℕ) → j < k → order_at d j ≢ slot
+use Rattle.dispatcher.proofs.Dispatcher.is_ready.Goals.{then-stands-slot, else-stands-slot}
 
 pub returns-then-slot-ge-SLOTS : goal.returns-then-slot-ge-SLOTS
 returns-then-slot-ge-SLOTS c = decides_false (λ h. omega (arith, h.slot, c.if-slot-ge-SLOTS.true))
@@ -25,21 +21,16 @@ returns-then-slot-ge-SLOTS c = decides_false (λ h. omega (arith, h.slot, c.if-s
 pub loop-k-init : goal.loop-k-init
 loop-k-init c = record { within = omega arith; yes = λ f. clash f refl; no = λ _ j l. absurd (omega arith) }
 
--- what is read is what stands there
-read : (c : tie.After-stands invariant-loop decreases-loop) → order_at c.args.t1 c.loop.k ≡ get_or c.args.t1.order c.loop.k 0
-read c =
-    let e = c in
-    order_read e.args.t1 c.loop.k (simp length-map at e.well_formed.0.1.1.1.1.0.1.0.1) c.loop-test.true
-
 pub loop-k-preserved : goal.loop-k-preserved
 loop-k-preserved c =
     let l = c.loop-k in
     let a = c.args in
     let here = c.loop-k-test.true in
-    ⊎_elim
-    (λ w. rw w.1 (record { within = omega arith; yes = λ _. record { slot = omega arith; place = l.k; within = here; stands = read c ∙ w.0.taken }; no = λ f. clash refl f }))
-    (λ w. rw w.1 (record { within = omega arith; yes = l.invariant.yes; no = λ f. below_more _ _ (l.invariant.no f) (λ e. w.0.left (sym (read c) ∙ e)) }))
-    c.if-stands-slot.branch
+    let read : order_at a.self l.k ≡ get_or a.self.order l.k 0 = order_read a.self l.k (search rules) here in
+    elim c.if-stands-slot.branch [
+      then-stands-slot w ↦ rw w.found-is (record { within = omega arith; yes = λ _. record { slot = omega arith; place = l.k; within = here; stands = read ∙ w.if-stands-slot.true }; no = λ f. clash refl f })
+    | else-stands-slot w ↦ rw w.found-is (record { within = omega arith; yes = l.invariant.yes; no = λ f. below_more _ _ (l.invariant.no f) (λ e. w.if-stands-slot.false (sym read ∙ e)) })
+    ]
 
 pub returns : goal.returns
 returns c =

@@ -15,7 +15,11 @@ use Rattle.dispatcher.proofs.Reading.{order_read}
 use Rattle.dispatcher.proofs.Dispatcher.is_ready.Given as goal
 
 abbrev pub invariant-loop-k : goal.invariant-loop-k
-invariant-loop-k l = So-far l.self l.slot l.k l.found
+invariant-loop-k l = record {
+    within : l.k ≤ slot_limit;
+    yes : l.found ≡ true → Ready l.self l.slot;
+    no : l.found ≡ false → (j : ℕ) → j < l.k → order_at l.self j ≢ l.slot
+  }
 
 abbrev pub decreases-loop-k : goal.decreases-loop-k
 decreases-loop-k l = slot_limit - l.k
