@@ -8,14 +8,11 @@ use Rattle.decimals.specs.Fault.{fault_text}
 use Rattle.decimals.proofs.Fault.{fault_longest}
 use Rattle.lines.proofs.write_fault.Goals as goal
 
-room : (e : tie.Start) → length (fault_text e.args.number e.args.offset) ≤ 36
-room e = fault_longest e.args.number e.args.offset (omega arith) (omega arith)
-
 pub put_fault-size-requires : goal.put_fault-size-requires
-put_fault-size-requires c = room c
+put_fault-size-requires c = fault_longest c.args.number c.args.offset (omega arith) (omega arith)
 
 pub hand_over-requires : goal.hand_over-requires
-hand_over-requires c = omega (arith, room c)
+hand_over-requires c = omega (arith, fault_longest c.args.number c.args.offset (omega arith) (omega arith))
 
 pub returns : goal.returns
 returns c =
