@@ -13,5 +13,5 @@ returns c =
     let first = second in
     puts_piece
     first.put_spaced-answer.ensures
-    (puts_piece second.put_spaced-moves.ensures (puts_piece third.put_slot-started.ensures (λ _. puts_last c.put_slot-started.ensures)))
+    (puts_piece second.put_spaced-moves.ensures (puts_piece third.put_slot-started.ensures (λ _. puts_last c.put_slot.ensures)))
     first.requires

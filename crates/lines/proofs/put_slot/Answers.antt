@@ -14,7 +14,7 @@ pub returns-then-slot-eq-NONE : goal.returns-then-slot-eq-NONE
 returns-then-slot-eq-NONE c =
     let t = c in
     let dash = slot_dash _ t.if-slot-eq-NONE.true in
-    rw dash (puts_then t.put_byte-next.ensures c.put_byte-next.ensures (omega (arith, ap length dash)))
+    rw dash (puts_then t.put_byte-next.ensures c.put_byte.ensures (omega (arith, ap length dash)))
 
 pub put-requires : goal.put-requires
 put-requires c = omega (arith, ap length (slot_number _ c.if-slot-eq-NONE.false))

@@ -13,8 +13,7 @@ use Rattle.dispatcher.specs.Slots.{no_task, task_at}
 use Rattle.dispatcher.specs.declared.Task.{Task}
 use Rattle.dispatcher.specs.declared.Dispatcher.{Dispatcher}
 use Rattle.engine.specs.Turns.{MasksOf}
-use Rattle.engine.proofs.masks_of.Statement.{statement}
-use Rattle.engine.proofs.masks_of.Tie as tie
+use Rattle.engine.proofs.masks_of.Goals as goal
 
 record MasksTo (d : Dispatcher) (slot : ℕ) (masks : List ℕ) : Type 0 where
   size : length masks ≡ slot_limit
@@ -34,51 +33,11 @@ all {d} {slot} {masks} n e M = record { each = λ t. go t (dec_lt t slot_limit) 
     go t (yes l) = M.each t (omega arith)
     go t (no l) = get_d_beyond masks t 0 (omega (arith, M.size)) ∙ ap (λ (x : Task). x.mask) (sym (get_d_beyond d.tasks t no_task (omega (arith, n))))
 
-abbrev invariant-loop : tie.invariant-loop
-invariant-loop d masks₀ slot₀ masks slot = MasksTo d slot masks
+pub loop-slot-init : goal.loop-slot-init
+loop-slot-init c = record { size = length-replicate {A = ℕ} slot_limit 0; each = λ t l. absurd (omega arith) }
 
-abbrev decreases-loop : tie.decreases-loop
-decreases-loop d masks₀ slot₀ masks slot = slot_limit - slot
+pub loop-slot-preserved : goal.loop-slot-preserved
+loop-slot-preserved c = more c.loop-slot.invariant c.loop-slot-test.true
 
-loop-holds : tie.Need-loop-init invariant-loop decreases-loop
-loop-holds c = record { size = length-replicate {A = ℕ} slot_limit 0; each = λ t l. absurd (omega arith) }
-
-mul-t : tie.Need-overflow-mul-t invariant-loop decreases-loop
-mul-t c = search rules
-
-element-copy-out-t : tie.Need-element-copy-out-t invariant-loop decreases-loop
-element-copy-out-t c = search rules
-
-mul-masks : tie.Need-overflow-mul-masks invariant-loop decreases-loop
-mul-masks c = search rules
-
-array-write-masks : tie.Need-array-write-masks invariant-loop decreases-loop
-array-write-masks c = search rules
-
-add-slot : tie.Need-overflow-add-slot invariant-loop decreases-loop
-add-slot c = search rules
-
-loop-less : tie.Need-loop-smaller invariant-loop decreases-loop
-loop-less c = search rules
-
-loop-again : tie.Need-loop-preserved invariant-loop decreases-loop
-loop-again c = more c.before.before.loop.invariant c.before.loop-test.true
-
-returns : tie.Need-returns invariant-loop decreases-loop
-returns c = all (simp length-map at c.before.before.well_formed.0.1.1.1.0.1.0.1) c.loop-test.false c.before.loop.invariant
-
-pub masks-of-spec : {M : Type 1} → statement M
-masks-of-spec =
-    tie.close
-    (tie.spec
-    invariant-loop
-    decreases-loop
-    loop-holds
-    mul-t
-    element-copy-out-t
-    mul-masks
-    array-write-masks
-    add-slot
-    loop-less
-    loop-again
-    returns)
+pub returns : goal.returns
+returns c = all (simp length-map at c.well_formed.0.1.1.1.0.1.0.1) c.loop-slot-test.false c.loop-slot.invariant
