@@ -1,5 +1,6 @@
 // Sets of cores in the List format of Linux cpuset(7), as `0-4,9`. The cores that a text may name are those below a limit, of which one above 64 counts as 64.
 #![tactic(auto)]
+
 ghost use Rattle.std.specs.Prelude.{◌+◌, ◌*◌, ◌≤◌, ◌<◌, min, ◌≡◌, length};
 ghost use Rattle.laws.specs.Decides.{Decides};
 ghost use Rattle.masks.specs.Masks.{has as Masks·has};

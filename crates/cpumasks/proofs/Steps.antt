@@ -65,6 +65,7 @@ module _ {n words at set : ℕ} {t : List ℕ} (to : MaskTo n words t at set) (f
   -- no fault stands before the place
   past : (m p : ℕ) → Applies (mask_faults n words t p) m → at ≤ p
   past m p (inl (_, u)) = expected at to.within begun u
+  past m p (inr (inr x)) = absurd x
   past m p (inr (inl (_, h))) = go (dec_lt p at)
     where
       go : Dec (p < at) → at ≤ p
@@ -94,6 +95,7 @@ module _ {n words at set : ℕ} {t : List ℕ} (to : MaskTo n words t at set) (f
       one : (m : ℕ) → Applies (mask_faults n words t at) m → 17 ≡ m
       one m (inl (e, _)) = sym e
       one m (inr (inl (_, h))) = absurd (not_both u h)
+      one m (inr (inr x)) = absurd x
 
   pub fault_above : HasAbove n words t at → FirstFault (mask_faults n words t) 19 at
   fault_above h = first_fault (inr (inl (refl, h))) past one
@@ -101,6 +103,7 @@ module _ {n words at set : ℕ} {t : List ℕ} (to : MaskTo n words t at set) (f
       one : (m : ℕ) → Applies (mask_faults n words t at) m → 19 ≡ m
       one m (inl (_, u)) = absurd (not_both u h)
       one m (inr (inl (e, _))) = sym e
+      one m (inr (inr x)) = absurd x
 
   -- ---- what is unexpected: the end, a character, one too many
 
@@ -218,6 +221,7 @@ means_all {words = words} to e = record {
 pub means_faultless : {n words s : ℕ} {t : List ℕ} → (NamesMissing n s → ⊥) → MeansMask words t s → Faultless (mask_faults n words t)
 means_faultless none m k o (inl (_, u)) = none_unexpected m.text u
 means_faultless none m k o (inr (inl (_, h))) = none (record { core = h.core; missing = h.above; named = decides_yes (m.cores h.core) h.there })
+means_faultless none m k o (inr (inr x)) = absurd x
 
 pub to_below : {n words at set : ℕ} {t : List ℕ} → MaskTo n words t at set → NamesMissing n set → ⊥
 to_below to h =

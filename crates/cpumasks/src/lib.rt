@@ -1,6 +1,7 @@
 // Sets of cores in the Mask format of Linux cpuset(7), as `00000000,000e3862`. The cores that a text may name are those below a limit, of which one above 64
 // counts as 64; a text has exactly as many words as the limit needs.
 #![tactic(auto)]
+
 ghost use Rattle.std.specs.Prelude.{◌*◌, ◌≤◌, ◌<◌, ◌≡◌, length};
 ghost use Rattle.masks.specs.Masks.{NamesMissing};
 ghost use Rattle.cpusets.specs.Limit.{set_bits, cores_of};

@@ -1,6 +1,7 @@
 // What the List and Mask formats of Linux cpuset(7) share: sets of cores, the limit on cores, and what readers and writers of text answer. A set is a word,
 // bit k for core k.
 #![tactic(auto)]
+
 ghost use Rattle.std.specs.Prelude.{◌≤◌, ◌≡◌, length, take};
 ghost use Rattle.laws.specs.Decides.{Decides};
 ghost use Rattle.masks.specs.Masks.{NamesMissing};

@@ -1,5 +1,6 @@
 // Numbers as decimal text in lent bytes, and the line of a refusal, which is made of them.
 #![tactic(auto)]
+
 ghost use Rattle.std.specs.Prelude.{◌+◌, ◌≤◌, ◌<◌, ◌≡◌, ◌∷◌, length};
 ghost use Rattle.texts.specs.Put.{Puts};
 ghost use Rattle.texts.specs.Joined.{space};

@@ -42,6 +42,11 @@ letter_free (suc zero) (inl e) = omega arith
 letter_free (suc (suc zero)) (inl e) = omega arith
 letter_free (suc (suc (suc zero))) (inl e) = omega arith
 letter_free (suc (suc (suc (suc k)))) (inl e) = omega arith
+letter_free zero (inr x) = absurd x
+letter_free (suc zero) (inr x) = absurd x
+letter_free (suc (suc zero)) (inr x) = absurd x
+letter_free (suc (suc (suc zero))) (inr x) = absurd x
+letter_free (suc (suc (suc (suc k)))) (inr x) = absurd x
 
 -- ---- a slot or `-`
 

@@ -5,13 +5,6 @@ use Rattle.dispatcher.specs.Slots.{Shaped}
 use Rattle.shifting.proofs.Deciding.{searched_found, searched_nowhere, takable, idle_taken, idle_none}
 use Rattle.shifting.proofs.arrive.Goals as goal
 
-shaped : (e : tie.Start) → Shaped e.args.t1
-shaped e = record {
-  tasks = simp length-map at e.well_formed.0.1.1.1.0.1.0.1;
-  order = simp length-map at e.well_formed.0.1.1.1.1.0.1.0.1;
-  seats = simp length-map at e.well_formed.0.1.1.1.1.1.0.1.0.1;
-}
-
 pub taken-requires : goal.taken-requires
 taken-requires c =
     let a = c in
@@ -21,13 +14,15 @@ pub returns-then-route : goal.returns-then-route
 returns-then-route c =
     let a = c in
     let e = a in
-    idle_taken (shaped e) e.requires a.sitters-sitting.ensures.0 a.sitters-sitting.ensures.1 (searched_found a.search-route.ensures c.if-route.true) c.taken.ensures
+    let shaped : Shaped e.args.d = record { tasks = search rules; order = search rules; seats = search rules } in
+    idle_taken shaped e.requires a.sitters-sitting.ensures.0 a.sitters-sitting.ensures.1 (searched_found a.search-route.ensures c.if-route.true) c.taken.ensures
 
 pub push-requires : goal.push-requires
 push-requires c =
     let a = c in
     let e = a in
-    idle_none (shaped e) e.requires a.sitters-sitting.ensures.0 a.sitters-sitting.ensures.1 (searched_nowhere a.search-route.ensures c.if-route.false)
+    let shaped : Shaped e.args.d = record { tasks = search rules; order = search rules; seats = search rules } in
+    idle_none shaped e.requires a.sitters-sitting.ensures.0 a.sitters-sitting.ensures.1 (searched_nowhere a.search-route.ensures c.if-route.false)
 
 pub returns : goal.returns
 returns c = c.push.ensures

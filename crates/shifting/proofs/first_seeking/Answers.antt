@@ -6,7 +6,7 @@ use mathlib.Core.List.{List}
 use native.Mathlib.Omega.{arith}
 use lib.Bits.{bit_and}
 use lib.Dec.{leb}
-use lib.ListN.{length, get_or, length-take, length-map}
+use lib.ListN.{length, get_or, take, length-take}
 use borrow.Author.Rules.{rules}
 use borrow.Author.Tests.{le-leb}
 use Rattle.laws.specs.Decides.{Decides}
@@ -21,125 +21,106 @@ use Rattle.shifting.specs.Board.{Waits}
 use Rattle.shifting.specs.Picking.{rank_at, seek_test, FirstSeeking}
 use Rattle.shifting.proofs.Along.{Along, along_start, along_skip, along_new, along_keep, along_all, stands_ready, stays_ahead, falls_behind, ready_passed}
 use Rattle.shifting.proofs.Seeking.{wait_test, wait_tells, wait_small, ready_test_lem}
+use Rattle.dispatcher.specs.Sound.{Sound}
+use Rattle.order.specs.Places.{FirstPlaces}
+use Rattle.shifting.proofs.first_seeking.Invariants.{FirstTo}
 use Rattle.shifting.proofs.first_seeking.Goals as goal
+use Rattle.shifting.proofs.first_seeking.Goals.{then-highest-t+then-seeks, then-highest-t+else-seeks, else-highest-t}
 
-abbrev FirstTo : Dispatcher → List ℕ → ℕ → ℕ → ℕ → ℕ → Type 0
-FirstTo d cores lead = Along (order_at d) (λ i. priority_of d (order_at d i)) (λ i j. leb (rank_at d (order_at d j)) (rank_at d (order_at d i))) (λ i. wait_test d cores lead (order_at d i)) none 0
-
-seats-long : (e : tie.Start invariant-loop decreases-loop) → length e.args.t1.seats ≡ core_limit
-seats-long e = simp length-map at e.well_formed.0.1.1.1.1.1.0.1.0.1
-
-module _ (a : tie.After-first-places invariant-loop decreases-loop) where
-  abbrev start : tie.Start invariant-loop decreases-loop
-  start = a
-
-  abbrev board : Dispatcher
-  board = start.args.t1
-
-  abbrev cores : List ℕ
-  cores = a.first-places.result
-
-  shaped : Shaped board
-  shaped = record {
-    tasks = simp length-map at start.good.0.1.1.1.0.1.0.1;
-    order = simp length-map at start.good.0.1.1.1.1.0.1.0.1;
-    seats = seats-long start;
-  }
-
+module _ {d : Dispatcher} {cores : List ℕ} (lead : ℕ) (L : Shaped d) (S : Sound d) (F : FirstPlaces (take d.cores d.seats) cores) where
   -- where the order ends
-  picked : {k first highest : ℕ} → k ≤ slot_limit → (slot_limit ≤ k) ⊎ (order_at board k ≡ none) → FirstTo board cores start.args.lead k first highest → FirstSeeking board start.args.lead first
+  picked : {k first highest : ℕ} → k ≤ slot_limit → (slot_limit ≤ k) ⊎ (order_at d k ≡ none) → FirstTo d cores lead k first highest → FirstSeeking d lead first
   picked l end A = record {
-    test = wait_test board cores start.args.lead;
+    test = wait_test d cores lead;
     tells = told;
-    picks = along_all slot_limit (omega arith) (λ i b. wait_small board cores start.args.lead (order_at board i)) (λ w b t. ready_passed shaped start.pre end ((told w b).yes t).0.ready) A;
+    picks = along_all slot_limit (omega arith) (λ i b. wait_small d cores lead (order_at d i)) (λ w b t. ready_passed L S end ((told w b).yes t).0.ready) A;
   }
     where
-      told : (w : ℕ) → w < slot_limit → Decides (Waits board w × (bit_and (task_at board w).mask start.args.lead ≢ 0)) (wait_test board cores start.args.lead w)
-      told w b = wait_tells shaped start.pre a.first-places.ensures b start.args.lead
+      told : (w : ℕ) → w < slot_limit → Decides (Waits d w × (bit_and (task_at d w).mask lead ≢ 0)) (wait_test d cores lead w)
+      told w b = wait_tells L S F b lead
+
+  -- a slot stands at a place
+  module _ {k : ℕ} (low : k < slot_limit) (busy : get_or d.order k 0 ≢ none) where
+    read : order_at d k ≡ get_or d.order k 0
+    read = order_read d k L.order low
+
+    held : order_at d k ≢ none
+    held q = busy (sym read ∙ q)
+
+    ready : Ready d (get_or d.order k 0)
+    ready = rw read at (stands_ready L S low held)
+
+    weight : priority_of d (order_at d k) ≡ (task_at d (get_or d.order k 0)).priority
+    weight = ap (priority_of d) read
+
+    test : wait_test d cores lead (order_at d k) ≡ seek_test (task_at d (get_or d.order k 0)).mask (get_or cores (get_or d.order k 0) 0) lead
+    test = ap (wait_test d cores lead) read ∙ ready_test_lem cores lead ready
 
 pub slice_bounds-seats-end : goal.slice_bounds-seats-end
-slice_bounds-seats-end c = omega (arith, seats-long c, c.requires.count.1)
+slice_bounds-seats-end c =
+    let L : Shaped c.args.d = record { tasks = search rules; order = search rules; seats = search rules } in
+    omega (arith, L.seats, c.requires.count.1)
 
 pub slice_bounds-first_places-end : goal.slice_bounds-first_places-end
-slice_bounds-first_places-end c = omega (arith, seats-long c, c.requires.count.1, length-take c.args.d.cores c.args.d.seats)
+slice_bounds-first_places-end c =
+    let L : Shaped c.args.d = record { tasks = search rules; order = search rules; seats = search rules } in
+    omega (arith, L.seats, c.requires.count.1, length-take c.args.d.cores c.args.d.seats)
 
 pub loop-k-init : goal.loop-k-init
 loop-k-init c = (omega arith, along_start)
 
-pub bounds-d-k : goal.bounds-d-k
-bounds-d-k c = search rules
-
-module _ (e : tie.Else1 invariant-loop decreases-loop) where
-  abbrev at-loop : tie.After-first-places invariant-loop decreases-loop
-  at-loop = e
-
-  abbrev d : Dispatcher
-  d = board at-loop
-
-  abbrev place : ℕ
-  place = e.loop-k.k
-
-  abbrev slot : ℕ
-  slot = get_or d.order place 0
-
-  read : order_at d place ≡ slot
-  read = order_read d place (shaped at-loop).order e.loop-k-test.taken
-
-  held : order_at d place ≢ none
-  held q = e.if1.left (sym read ∙ q)
-
-  ready : Ready d slot
-  ready = rw read at (stands_ready (shaped at-loop) (start at-loop).pre e.loop-k-test.taken held)
-
-  small : slot < slot_limit
-  small = ready.slot
-
-  weight : priority_of d (order_at d place) ≡ (task_at d slot).priority
-  weight = ap (priority_of d) read
-
-  test : wait_test d (cores at-loop) (start at-loop).args.lead (order_at d place) ≡ seek_test (task_at d slot).mask (get_or (cores at-loop) slot 0) (start at-loop).args.lead
-  test = ap (wait_test d (cores at-loop) (start at-loop).args.lead) read ∙ ready_test_lem (cores at-loop) (start at-loop).args.lead ready
-
 pub offset_bounds-d-slot : goal.offset_bounds-d-slot
-offset_bounds-d-slot c = omega (arith, small c)
+offset_bounds-d-slot c =
+    let L : Shaped c.args.d = record { tasks = search rules; order = search rules; seats = search rules } in
+    omega (arith, (ready c.args.lead L c.requires c.first_places-cores.ensures c.loop-k-test.true c.if-slot-eq-NONE.false).slot)
 
 pub bounds-d-slot : goal.bounds-d-slot
-bounds-d-slot c = small c
+bounds-d-slot c =
+    let L : Shaped c.args.d = record { tasks = search rules; order = search rules; seats = search rules } in
+    (ready c.args.lead L c.requires c.first_places-cores.ensures c.loop-k-test.true c.if-slot-eq-NONE.false).slot
 
 pub offset_bounds-cores-slot : goal.offset_bounds-cores-slot
-offset_bounds-cores-slot c = omega (arith, small c)
+offset_bounds-cores-slot c =
+    let L : Shaped c.args.d = record { tasks = search rules; order = search rules; seats = search rules } in
+    omega (arith, (ready c.args.lead L c.requires c.first_places-cores.ensures c.loop-k-test.true c.if-slot-eq-NONE.false).slot)
 
 pub bounds-cores-slot : goal.bounds-cores-slot
-bounds-cores-slot c = small c
+bounds-cores-slot c =
+    let L : Shaped c.args.d = record { tasks = search rules; order = search rules; seats = search rules } in
+    (ready c.args.lead L c.requires c.first_places-cores.ensures c.loop-k-test.true c.if-slot-eq-NONE.false).slot
 
 pub loop-k-preserved : goal.loop-k-preserved
 loop-k-preserved c =
-    let e = c in
-    let l = e.loop-k in
-    let L = shaped (at-loop e) in
-    let S = (start (at-loop e)).pre in
-    let low = e.loop-k-test.true in
-    let rank : ℕ → ℕ = λ i. rank_at (d e) (order_at (d e) i) in (
+    let l = c.loop-k in
+    let d = c.args.d in
+    let low = c.loop-k-test.true in
+    let L : Shaped c.args.d = record { tasks = search rules; order = search rules; seats = search rules } in
+    let rank : ℕ → ℕ = λ i. rank_at d (order_at d i) in
+    let weight = weight c.args.lead L c.requires c.first_places-cores.ensures c.loop-k-test.true c.if-slot-eq-NONE.false in
+    let test = test c.args.lead L c.requires c.first_places-cores.ensures c.loop-k-test.true c.if-slot-eq-NONE.false in
+    let read = read c.args.lead L c.requires c.first_places-cores.ensures c.loop-k-test.true c.if-slot-eq-NONE.false in
+    let held = held c.args.lead L c.requires c.first_places-cores.ensures c.loop-k-test.true c.if-slot-eq-NONE.false in (
       omega arith,
-      ⊎_elim
-          (λ w. let told : c.if-highest-t.highest ≡ priority_of (d e) (order_at (d e) (place e)) = omega (arith, w.4, weight e) in
-          rw (w.3 ∙ sym (read e), told)
-          (along_new l.invariant.1 (omega arith) (turned (by_key rank)) (test e ∙ sym w.1.ensures ∙ w.2.taken)
-          (λ p b t q. le-leb (rank (place e)) (rank p) (omega (arith, falls_behind L S b low (held e) (omega (arith, q, weight e, w.0.taken)))))))
-          (⊎_elim
-          (λ w. rw (w.3, w.4) (along_skip l.invariant.1 (test e ∙ sym w.1.ensures ∙ w.2.left)))
-          (λ w. rw (w.1, w.2)
-          (along_keep l.invariant.1 (λ z. omega (arith, z, w.0.left, (ready_priority S (ready e)).0))
-          (λ _ p b t q. le-leb (rank p) (rank (place e)) (omega (arith, stays_ahead L S b low (held e) (omega (arith, q, weight e, w.0.left))))))))
-          c.if-highest-t.branch,
+      elim c.if-highest-t.branch [
+        then-highest-t+then-seeks w ↦
+          let told : c.if-highest-t.highest ≡ priority_of d (order_at d l.k) = omega (arith, w.highest-is, weight) in
+          rw (w.first-is ∙ sym read, told)
+          (along_new l.invariant.1 (omega arith) (turned (by_key rank)) (test ∙ sym w.seeks.ensures ∙ w.if-seeks.true)
+          (λ p b t q. le-leb (rank l.k) (rank p) (omega (arith, falls_behind L c.requires b low held (omega (arith, q, weight, w.if-highest-t.true))))))
+      | then-highest-t+else-seeks w ↦ rw (w.first-is, w.highest-is) (along_skip l.invariant.1 (test ∙ sym w.seeks.ensures ∙ w.if-seeks.false))
+      | else-highest-t w ↦ rw (w.first-is, w.highest-is)
+          (along_keep l.invariant.1 (λ z. omega (arith, z, w.if-highest-t.false, (ready_priority c.requires (ready c.args.lead L c.requires c.first_places-cores.ensures c.loop-k-test.true c.if-slot-eq-NONE.false)).0))
+          (λ _ p b t q. le-leb (rank p) (rank l.k) (omega (arith, stays_ahead L c.requires b low held (omega (arith, q, weight, w.if-highest-t.false))))))
+      ],
     )
 
 pub returns-then-slot-eq-NONE : goal.returns-then-slot-eq-NONE
 returns-then-slot-eq-NONE c =
-    let i = c in
-    let a = i in
-    let read = order_read (board a) i.loop-k.k (shaped a).order i.loop-k-test.true in
-    picked a i.loop-k.invariant.0 (inr (read ∙ c.if-slot-eq-NONE.true)) i.loop-k.invariant.1
+    let L : Shaped c.args.d = record { tasks = search rules; order = search rules; seats = search rules } in
+    let here = order_read c.args.d c.loop-k.k L.order c.loop-k-test.true in
+    picked c.args.lead L c.requires c.first_places-cores.ensures c.loop-k.invariant.0 (inr (here ∙ c.if-slot-eq-NONE.true)) c.loop-k.invariant.1
 
 pub returns : goal.returns
-returns c = picked c c.loop-k.invariant.0 (inl c.loop-k-test.false) c.loop-k.invariant.1
+returns c =
+    let L : Shaped c.args.d = record { tasks = search rules; order = search rules; seats = search rules } in
+    picked c.args.lead L c.requires c.first_places-cores.ensures c.loop-k.invariant.0 (inl c.loop-k-test.false) c.loop-k.invariant.1

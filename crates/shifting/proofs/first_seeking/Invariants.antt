@@ -23,6 +23,9 @@ use Rattle.shifting.proofs.Along.{Along, along_start, along_skip, along_new, alo
 use Rattle.shifting.proofs.Seeking.{wait_test, wait_tells, wait_small, ready_test_lem}
 use Rattle.shifting.proofs.first_seeking.Given as goal
 
+abbrev pub FirstTo : Dispatcher → List ℕ → ℕ → ℕ → ℕ → ℕ → Type 0
+FirstTo d cores lead = Along (order_at d) (λ i. priority_of d (order_at d i)) (λ i j. leb (rank_at d (order_at d j)) (rank_at d (order_at d i))) (λ i. wait_test d cores lead (order_at d i)) none 0
+
 abbrev pub invariant-loop-k : goal.invariant-loop-k
 invariant-loop-k l = (l.k ≤ slot_limit) × FirstTo l.d l.cores l.lead l.k l.first l.highest
 

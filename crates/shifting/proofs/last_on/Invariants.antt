@@ -23,6 +23,16 @@ use Rattle.shifting.proofs.Along.{Along, along_start, along_skip, along_new, alo
 use Rattle.shifting.proofs.Cores.{core_seat, seat_core}
 use Rattle.shifting.proofs.last_on.Given as goal
 
+-- the core of the slot at place i, and the rank of what sits there
+abbrev pub core_at : Dispatcher → List ℕ → ℕ → ℕ
+core_at d cores i = get_or cores (order_at d i) 0
+
+abbrev pub rank_on : Dispatcher → List ℕ → ℕ → ℕ
+rank_on d cores i = rank_at d (seat_at d (core_at d cores i))
+
+abbrev pub LastTo : Dispatcher → List ℕ → ℕ → ℕ → ℕ → ℕ → Type 0
+LastTo d cores seen = Along (core_at d cores) (λ i. priority_of d (order_at d i)) (λ i j. leb (rank_on d cores i) (rank_on d cores j)) (λ i. has seen (core_at d cores i)) d.cores greatest_priority
+
 abbrev pub invariant-loop-k : goal.invariant-loop-k
 invariant-loop-k l = (l.k ≤ slot_limit) × LastTo l.d l.cores l.seen l.k l.last l.lowest
 

@@ -1,4 +1,5 @@
 -- `push` meets its promise: of the tasks on reached cores the last is picked, and the newcomer waits unless it comes before it.
+use mathlib.Core.List.{List}
 use Prim.Native.Nat.{ℕ, ◌<◌}
 use mathlib.Core.Path.{◌≡◌, refl, sym, ◌∙◌, subst}
 use mathlib.Core.Logic.{◌≢◌}
@@ -20,79 +21,71 @@ use Rattle.shifting.specs.Shifts.{Arrived, still_at}
 use Rattle.shifting.specs.declared.Shift.{Shift}
 use Rattle.shifting.proofs.Board.{core_below}
 use Rattle.shifting.proofs.Deciding.{takable, reached_held, last_real, last_ready, must_wait, loser_found, loser_pushed}
+use Rattle.search.specs.ReachedCores.{ReachedCores}
+use Rattle.shifting.specs.Picking.{LastOn}
+use Rattle.shifting.specs.Arriving.{Pushing}
 use Rattle.shifting.proofs.push.Goals as goal
 
-shaped : (e : tie.Start) → Shaped e.args.t1
-shaped e = record {
-  tasks = simp length-map at e.well_formed.0.1.1.1.0.1.0.1;
-  order = simp length-map at e.well_formed.0.1.1.1.1.0.1.0.1;
-  seats = simp length-map at e.well_formed.0.1.1.1.1.1.0.1.0.1;
-}
+-- the last task on the reached cores, where there is one: its core is one of the machine's, and so is its slot
+module _ {d : Dispatcher} {x : ℕ} {masks : List ℕ} {seen z : ℕ} (L : Shaped d) (P : Pushing d masks x)
+    (reached : ReachedCores d.cores masks (task_at d x).mask seen) (last : LastOn d seen z) (some : z ≢ d.cores) where
+  below : z < core_limit
+  below = core_below P.arriving.sound (last_real L P.arriving P.sitters P.full reached last some).below
 
-module _ (a : tie.After-last-on) where
-  abbrev start : tie.Start
-  start = a
+  read : seat_at d z ≡ get_or d.seats z 0
+  read = seat_read d z L.seats below
 
-  abbrev d : Dispatcher
-  d = start.args.t1
+  small : get_or d.seats z 0 < slot_limit
+  small = rw (← read) (last_ready L P.arriving P.sitters P.full reached last some).slot
 
-  abbrev z : ℕ
-  z = a.last_on.result
-
-  waits : {r : Shift} → (z < d.cores → ComesBefore d start.args.slot (seat_at d z) → ⊥) → r ≡ still_at d.seats → Arrived d start.args.slot r
-  waits = must_wait (shaped start) start.pre.arriving start.pre.sitters start.pre.full a.reached.ensures a.last_on.ensures
-
-  module _ (some : z ≢ d.cores) where
-    below : z < core_limit
-    below = core_below start.pre.arriving.sound (last_real (shaped start) start.pre.arriving start.pre.sitters start.pre.full a.reached.ensures a.last_on.ensures some).below
-
-    read : seat_at d z ≡ get_or d.seats z 0
-    read = seat_read d z (shaped start).seats below
-
-    small : get_or d.seats z 0 < slot_limit
-    small = rw (← read) (last_ready (shaped start) start.pre.arriving start.pre.sitters start.pre.full a.reached.ensures a.last_on.ensures some).slot
-
-    chain : {target : ℕ} {route : Route} → Added 0 z target → Searched d.cores start.args.masks.now (task_at d start.args.slot).mask target route
-        → Found d.cores start.args.masks.now (task_at d start.args.slot).mask target route
-    chain m = loser_found (shaped start) start.pre.arriving start.pre.sitters start.pre.full a.reached.ensures a.last_on.ensures some (only_core below m z ∙ eqb_true (refl {a = z}))
+  chain : {target : ℕ} {route : Route} → Added 0 z target → Searched d.cores masks (task_at d x).mask target route
+      → Found d.cores masks (task_at d x).mask target route
+  chain m = loser_found L P.arriving P.sitters P.full reached last some (only_core below m z ∙ eqb_true (refl {a = z}))
 
 pub last_on-last-requires : goal.last_on-last-requires
-last_on-last-requires c = let e = c in reached_held (shaped e) e.requires.arriving e.requires.sitters e.requires.full c.reached-seen.ensures
+last_on-last-requires c =
+    let L : Shaped c.args.d = record { tasks = search rules; order = search rules; seats = search rules } in
+    reached_held L c.requires.arriving c.requires.sitters c.requires.full c.reached-seen.ensures
 
 pub returns-then-last-n : goal.returns-then-last-n
-returns-then-last-n c = waits c (λ l. absurd (omega (arith, l, c.if-last-n.true))) c.still.ensures
+returns-then-last-n c =
+    let L : Shaped c.args.d = record { tasks = search rules; order = search rules; seats = search rules } in
+    must_wait L c.requires.arriving c.requires.sitters c.requires.full c.reached-seen.ensures c.last_on-last.ensures (λ l. absurd (omega (arith, l, c.if-last-n.true))) c.still.ensures
 
 pub offset_bounds-seats-last : goal.offset_bounds-seats-last
-offset_bounds-seats-last c = omega (arith, below c c.if-last-n.false)
+offset_bounds-seats-last c =
+    let L : Shaped c.args.d = record { tasks = search rules; order = search rules; seats = search rules } in
+    omega (arith, below L c.requires c.reached-seen.ensures c.last_on-last.ensures c.if-last-n.false)
 
 pub bounds-seats-last : goal.bounds-seats-last
-bounds-seats-last c = below c c.if-last-n.false
+bounds-seats-last c =
+    let L : Shaped c.args.d = record { tasks = search rules; order = search rules; seats = search rules } in
+    below L c.requires c.reached-seen.ensures c.last_on-last.ensures c.if-last-n.false
 
 pub offset_bounds-d-v : goal.offset_bounds-d-v
-offset_bounds-d-v c = omega (arith, small c c.if-last-n.false)
+offset_bounds-d-v c =
+    let L : Shaped c.args.d = record { tasks = search rules; order = search rules; seats = search rules } in
+    omega (arith, small L c.requires c.reached-seen.ensures c.last_on-last.ensures c.if-last-n.false)
 
 pub bounds-d-v : goal.bounds-d-v
-bounds-d-v c = small c c.if-last-n.false
+bounds-d-v c =
+    let L : Shaped c.args.d = record { tasks = search rules; order = search rules; seats = search rules } in
+    small L c.requires c.reached-seen.ensures c.last_on-last.ensures c.if-last-n.false
 
 pub returns-then-not-comes_before : goal.returns-then-not-comes_before
 returns-then-not-comes_before c =
-    let b = c in
-    let i = b in
-    let a = i in
-    waits a (λ l k. b.comes_before.ensures.no c.if-not-comes_before.true (subst (ComesBefore (d a) (start a).args.slot) (read a i.if-last-n.false) k)) c.still-then-not-comes_before.ensures
+    let L : Shaped c.args.d = record { tasks = search rules; order = search rules; seats = search rules } in
+    must_wait L c.requires.arriving c.requires.sitters c.requires.full c.reached-seen.ensures c.last_on-last.ensures (λ l k. c.comes_before.ensures.no c.if-not-comes_before.true (subst (ComesBefore c.args.d c.args.slot) (read L c.requires c.reached-seen.ensures c.last_on-last.ensures c.if-last-n.false) k)) c.still-then-not-comes_before.ensures
 
 pub taken-requires : goal.taken-requires
 taken-requires c =
-    let i = c in
-    let a = i in
-    takable (start a).requires.arriving.sound.count.1 (chain a i.if-last-n.false c.add-target.ensures c.search-route.ensures)
+    let L : Shaped c.args.d = record { tasks = search rules; order = search rules; seats = search rules } in
+    takable c.requires.arriving.sound.count.1 (chain L c.requires c.reached-seen.ensures c.last_on-last.ensures c.if-last-n.false c.add-target.ensures c.search-route.ensures)
 
 pub returns : goal.returns
 returns c =
-    let b = c in
-    let i = b in
-    let a = i in
-    let e = start a in
-    loser_pushed (shaped e) e.pre.arriving e.pre.sitters e.pre.full a.reached-seen.ensures a.last_on-last.ensures i.if-last-n.false c.add-target.ensures
-    (subst (ComesBefore (d a) e.args.slot) (sym (read a i.if-last-n.false)) (b.comes_before.ensures.yes c.if-not-comes_before.false))
-    (chain a i.if-last-n.false c.add-target.ensures c.search-route.ensures) (read a i.if-last-n.false) c.taken.ensures
+    let L : Shaped c.args.d = record { tasks = search rules; order = search rules; seats = search rules } in
+    let here = read L c.requires c.reached-seen.ensures c.last_on-last.ensures c.if-last-n.false in
+    loser_pushed L c.requires.arriving c.requires.sitters c.requires.full c.reached-seen.ensures c.last_on-last.ensures c.if-last-n.false c.add-target.ensures
+    (subst (ComesBefore c.args.d c.args.slot) (sym here) (c.comes_before.ensures.yes c.if-not-comes_before.false))
+    (chain L c.requires c.reached-seen.ensures c.last_on-last.ensures c.if-last-n.false c.add-target.ensures c.search-route.ensures) here c.taken.ensures

@@ -18,25 +18,3 @@ invariant-loop-c l = SittersTo l.d l.c l.masks × IdleTo l.d l.c l.idle
 
 abbrev pub decreases-loop-c : goal.decreases-loop-c
 decreases-loop-c l = l.d.cores - l.c
-
-module _ (i : tie.In-loop invariant-loop decreases-loop) where
-  abbrev start : tie.Start invariant-loop decreases-loop
-  start = i.before.before
-
-  abbrev l.d : Dispatcher
-  l.d = start.args.t1
-
-  abbrev core : ℕ
-  core = i.before.loop.c
-
-  below : core < core_limit
-  below = core_below start.pre i.loop-test.taken
-
-  read : seat_at l.d core ≡ get_or l.d.seats core 0
-  read = seat_read l.d core (simp length-map at start.good.0.1.1.1.1.1.0.1.0.1) below
-
-  tasks-long : length l.d.tasks ≡ slot_limit
-  tasks-long = simp length-map at start.good.0.1.1.1.0.1.0.1
-
-  small : (get_or l.d.seats core 0 ≡ none → ⊥) → get_or l.d.seats core 0 < slot_limit
-  small held = rw (← read) (start.pre.seats core below (λ q. held (sym read ∙ q))).ready.slot

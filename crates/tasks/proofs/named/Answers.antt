@@ -1,5 +1,6 @@
 -- `named` meets its promise: what the check of soundness says comes first, and after it the first test of the model's list that is true.
-use mathlib.Core.Path.{sym, ◌∙◌}
+use mathlib.Core.Path.{sym, ap, ◌∙◌}
+use mathlib.Core.Bool.{not}
 use mathlib.Core.List.{[]}
 use borrow.Author.Tests.{le-leb, lt-leb}
 use borrow.Author.Rules.{rules}
@@ -22,4 +23,4 @@ unfolding first_of
 returns c =
     let a = c.args in
     sound_then (slot_refusals a.d a.slot) (later a.d a.slot) (done_sound a.d c.check-unsound.ensures.answer (sym c.number.ensures ∙ c.if-number-ne0.false))
-    (simp (lt-leb _ _ c.if-at-ge-SLOTS.false, empty_is c.is_used.ensures c.if-not-is_used.false) at (slot_answers a.d a.slot))
+    (simp (lt-leb _ _ c.if-at-ge-SLOTS.false, empty_is c.is_used.ensures (ap not c.if-not-is_used.false)) at (slot_answers a.d a.slot))
