@@ -6,7 +6,7 @@ use native.Mathlib.Nat.{le_refl, lt_of_le_of_lt}
 use borrow.Author.Rules.{rules}
 use lib.ListN.{length}
 use Rattle.days.proofs.Calling.{call_small}
-use Rattle.days.proofs.Printing.{So-far, start, within, length_kept, stays, stops, added, more}
+use Rattle.days.proofs.Printing.{SoFar, start, within, length_kept, stays, stops, added, more}
 use Rattle.days.proofs.replay.Goals as goal
 
 pub loop-s-init : goal.loop-s-init
@@ -14,18 +14,6 @@ loop-s-init c = let e = c.args in start e.file.now e.k e.d e.buffer.now
 
 pub slice_bounds-step-count : goal.slice_bounds-step-count
 slice_bounds-step-count c = within c.loop-s.invariant
-
-pub TODO-slice-bounds-step-start : goal.TODO-slice-bounds-step-start
-TODO-slice-bounds-step-start c = within c.loop.invariant
-
-pub TODO-slice-bounds-step-end : goal.TODO-slice-bounds-step-end
-TODO-slice-bounds-step-end c = le_refl _
-
-pub TODO-same-length : goal.TODO-same-length
-TODO-same-length c =
-    let at = c.loop in
-    let step = c.step in
-    ap length (stays at.invariant _ step.result step.ensures c.if1.true) ∙ ap length (sym at.invariant.written) ∙ length_kept at.invariant
 
 pub returns-then-written-eq0 : goal.returns-then-written-eq0
 returns-then-written-eq0 c =
@@ -47,15 +35,15 @@ overflow_add-next c =
     let at = c.loop-s in
     let step = c.step-s in
     let line = (added at.invariant _ step.result step.ensures c.if-written-eq0.false).line_at in
-    let small = call_small _ at.next line.call (λ o. (c.shared-slice-known.given o).fits) line.at in
-    record { fits = omega (arith, small) }
+    let small = call_small _ at.next line.call (λ o. (c.type_inv.file o).fits) line.at in
+    omega (arith, small)
 
 pub overflow_add-length : goal.overflow_add-length
 overflow_add-length c =
     let at = c.loop-s in
     let step = c.step-s in
     let kept = more at.invariant _ step.result step.ensures c.if-written-eq0.false in
-    record { fits = lt_of_le_of_lt (omega (arith, kept.fits, kept.size_is)) c.well_formed.1.1.1.0.0 }
+    omega (arith, kept.fits, kept.size_is)
 
 pub loop-s-smaller : goal.loop-s-smaller
 loop-s-smaller c =

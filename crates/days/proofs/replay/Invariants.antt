@@ -6,11 +6,11 @@ use native.Mathlib.Nat.{le_refl, lt_of_le_of_lt}
 use borrow.Author.Rules.{rules}
 use lib.ListN.{length}
 use Rattle.days.proofs.Calling.{call_small}
-use Rattle.days.proofs.Printing.{So-far, start, within, length_kept, stays, stops, added, more}
+use Rattle.days.proofs.Printing.{SoFar, start, within, length_kept, stays, stops, added, more}
 use Rattle.days.proofs.replay.Given as goal
 
 abbrev pub invariant-loop-s : goal.invariant-loop-s
-invariant-loop-s l = So-far l.file l.k l.initial.current l.initial.buffer l.buffer l.next l.size l.current
+invariant-loop-s l = SoFar l.file l.k l.initial.current l.initial.buffer l.buffer l.next l.length l.current
 
 abbrev pub decreases-loop-s : goal.decreases-loop-s
-decreases-loop-s l = length l.initial.buffer - l.size
+decreases-loop-s l = length l.initial.buffer - l.length
