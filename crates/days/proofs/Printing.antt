@@ -21,7 +21,7 @@ prints_join b k d (suc n) m e f t u (o, l, v, at, text, rest) y =
     let place : k + suc n ≡ k + 1 + n = omega arith in
     rw (suc-add n m) (o, l, v ++ u, at, ap (λ (x : List ℕ). x ++ u) text ∙ append_assoc l v u, prints_join b (k + 1) o.dispatcher n m e f v u rest (rw place at y))
 
-pub record So-far (b : List ℕ) (k : ℕ) (d : Dispatcher) (before after : List ℕ) (next size : ℕ) (e : Dispatcher) : Type 0 where
+pub record SoFar (b : List ℕ) (k : ℕ) (d : Dispatcher) (before after : List ℕ) (next size : ℕ) (e : Dispatcher) : Type 0 where
   pub made : ℕ
   pub text : List ℕ
   pub prints : Prints b k d made e text
@@ -30,11 +30,11 @@ pub record So-far (b : List ℕ) (k : ℕ) (d : Dispatcher) (before after : List
   pub written : after ≡ text ++ drop (length text) before
   pub fits : length text ≤ length before
 
-pub start : (b : List ℕ) (k : ℕ) (d : Dispatcher) (before : List ℕ) → So-far b k d before before k 0 d
+pub start : (b : List ℕ) (k : ℕ) (d : Dispatcher) (before : List ℕ) → SoFar b k d before before k 0 d
 start b k d before =
     record { made = 0; text = []; prints = (refl, refl); next_is = sym (add-zero k); size_is = refl; written = refl; fits = omega arith }
 
-module _ {b : List ℕ} {k : ℕ} {d e : Dispatcher} {before after : List ℕ} {next size : ℕ} (s : So-far b k d before after next size e) where
+module _ {b : List ℕ} {k : ℕ} {d e : Dispatcher} {before after : List ℕ} {next size : ℕ} (s : SoFar b k d before after next size e) where
   pub length_kept : length after ≡ length before
   length_kept =
       ap length s.written ∙ length-append s.text _ ∙ ap (λ (n : ℕ). length s.text + n) (length-drop (length s.text) before) ∙ omega (arith, s.fits)
@@ -85,7 +85,7 @@ module _ {b : List ℕ} {k : ℕ} {d e : Dispatcher} {before after : List ℕ} {
     pub added : r.written.length ≢ 0 → Accepted b next e (drop (length s.text) before) part r
     added some = accepted steps some
 
-    pub more : r.written.length ≢ 0 → So-far b k d before (put_mid size (length after - size) after part) (next + 1) (size + r.written.length) r.dispatcher
+    pub more : r.written.length ≢ 0 → SoFar b k d before (put_mid size (length after - size) after part) (next + 1) (size + r.written.length) r.dispatcher
     more some = record {
       made = suc s.made;
       text = s.text ++ a.line;

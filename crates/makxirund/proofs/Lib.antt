@@ -1,3 +1,1 @@
-pub mod InPlace
-pub mod Slot
 pub mod Same

@@ -1,6 +1,7 @@
 // The library for C and Rust: every call in place on the dispatcher that the kernel holds, the soundness check, the file reader, the line writer, and the
 // readers and writers of core sets. Each does what the function by value does, and tells it in plain numbers.
 #![tactic(auto)]
+
 ghost use Rattle.std.specs.Prelude.{◌≡◌};
 ghost use Rattle.dispatcher.specs.Unsound.{unsound_refusals};
 ghost use Rattle.dispatcher.specs.Promise.{Answered};

@@ -9,36 +9,28 @@ use borrow.Author.Tests.{not-true, not-false}
 use Rattle.dispatcher.specs.Limits.{core_limit, slot_limit}
 use Rattle.engine.proofs.Comparing.{Counted, counted_all, counted_most, AlikeTo, alike_more, lowest_difference, no_difference}
 use Rattle.engine.proofs.difference.Goals as goal
-
-seats-long : (e : tie.Start invariant-loop decreases-loop) → length e.args.d.seats ≡ core_limit
-seats-long e = simp length-map at e.well_formed.0.1.1.1.1.1.0.1.0.1
-
-counted : (j : tie.Joined1 invariant-loop decreases-loop) → Counted j.args.d j.if1.n
-counted j = ⊎_elim (λ w. rw w.1 (counted_most w.0.taken)) (λ w. rw w.1 (counted_all w.0.left)) j.if1.branch
+use Rattle.engine.proofs.difference.Goals.{then-n-gt-CORES, else-n-gt-CORES}
 
 pub slice_bounds-seats-end : goal.slice_bounds-seats-end
-slice_bounds-seats-end c = omega (arith, (counted c).few, seats-long c)
+slice_bounds-seats-end c =
+    let counted : Counted c.args.d c.if-n-gt-CORES.n = elim c.if-n-gt-CORES.branch [ then-n-gt-CORES w ↦ rw w.n-is (counted_most w.if-n-gt-CORES.true) | else-n-gt-CORES w ↦ rw w.n-is (counted_all w.if-n-gt-CORES.false) ] in
+    let long : length c.args.d.seats ≡ core_limit = search rules in
+    omega (arith, counted.few, long)
 
 pub slice_bounds-first_places-end : goal.slice_bounds-first_places-end
 slice_bounds-first_places-end c =
-    let e = c in
-    omega (arith, (counted c).few, seats-long e, length-take c.if-n-gt-CORES.n e.args.d.seats)
+    let counted : Counted c.args.d c.if-n-gt-CORES.n = elim c.if-n-gt-CORES.branch [ then-n-gt-CORES w ↦ rw w.n-is (counted_most w.if-n-gt-CORES.true) | else-n-gt-CORES w ↦ rw w.n-is (counted_all w.if-n-gt-CORES.false) ] in
+    let long : length c.args.d.seats ≡ core_limit = search rules in
+    omega (arith, counted.few, long, length-take c.if-n-gt-CORES.n c.args.d.seats)
 
 pub loop-slot-init : goal.loop-slot-init
 loop-slot-init c = record { upto = omega arith; each = λ t l. absurd (omega arith) }
 
-pub overflow_cast-result : goal.overflow_cast-result
-overflow_cast-result c = search rules
-
-module _ (a : tie.After-first-places invariant-loop decreases-loop) where
-  abbrev start : tie.Start invariant-loop decreases-loop
-  start = a
-
 pub returns-then-not-alike : goal.returns-then-not-alike
 returns-then-not-alike c =
-    let i = c in
-    let a = i in
-    lowest_difference (seats-long (start a)) (counted a) a.first_places-cores.ensures (start a).args.tasks i.loop-slot.invariant i.loop-slot-test.true (c.alike.ensures.no c.if-not-alike.true)
+    let counted : Counted c.args.d c.if-n-gt-CORES.n = elim c.if-n-gt-CORES.branch [ then-n-gt-CORES w ↦ rw w.n-is (counted_most w.if-n-gt-CORES.true) | else-n-gt-CORES w ↦ rw w.n-is (counted_all w.if-n-gt-CORES.false) ] in
+    let long : length c.args.d.seats ≡ core_limit = search rules in
+    lowest_difference long counted c.first_places-cores.ensures c.args.tasks c.loop-slot.invariant c.loop-slot-test.true (c.alike.ensures.no c.if-not-alike.true)
 
 pub loop-slot-preserved : goal.loop-slot-preserved
 loop-slot-preserved c =
@@ -47,5 +39,6 @@ loop-slot-preserved c =
 
 pub returns : goal.returns
 returns c =
-    let a = c in
-    no_difference (seats-long (start a)) (counted a) a.first_places-cores.ensures (start a).args.tasks c.loop-slot.invariant c.loop-slot-test.false
+    let counted : Counted c.args.d c.if-n-gt-CORES.n = elim c.if-n-gt-CORES.branch [ then-n-gt-CORES w ↦ rw w.n-is (counted_most w.if-n-gt-CORES.true) | else-n-gt-CORES w ↦ rw w.n-is (counted_all w.if-n-gt-CORES.false) ] in
+    let long : length c.args.d.seats ≡ core_limit = search rules in
+    no_difference long counted c.first_places-cores.ensures c.args.tasks c.loop-slot.invariant c.loop-slot-test.false

@@ -13,11 +13,8 @@ use Rattle.dispatcher.specs.Slots.{no_task, task_at}
 use Rattle.dispatcher.specs.declared.Task.{Task}
 use Rattle.dispatcher.specs.declared.Dispatcher.{Dispatcher}
 use Rattle.engine.specs.Turns.{MasksOf}
+use Rattle.engine.proofs.masks_of.Invariants.{MasksTo}
 use Rattle.engine.proofs.masks_of.Goals as goal
-
-record MasksTo (d : Dispatcher) (slot : ℕ) (masks : List ℕ) : Type 0 where
-  size : length masks ≡ slot_limit
-  each : (t : ℕ) → t < slot → get_or masks t 0 ≡ (task_at d t).mask
 
 more : {d : Dispatcher} {slot : ℕ} {masks : List ℕ} → MasksTo d slot masks → slot < slot_limit → MasksTo d (slot + 1) (set masks slot (task_at d slot).mask)
 more {d} {slot} {masks} M l = record { size = rw length-set M.size; each = λ t b. go t b (ℕ_discrete t slot) }
@@ -40,4 +37,4 @@ pub loop-slot-preserved : goal.loop-slot-preserved
 loop-slot-preserved c = more c.loop-slot.invariant c.loop-slot-test.true
 
 pub returns : goal.returns
-returns c = all (simp length-map at c.well_formed.0.1.1.1.0.1.0.1) c.loop-slot-test.false c.loop-slot.invariant
+returns c = all (search rules) c.loop-slot-test.false c.loop-slot.invariant

@@ -15,6 +15,10 @@ use Rattle.dispatcher.specs.declared.Dispatcher.{Dispatcher}
 use Rattle.engine.specs.Turns.{MasksOf}
 use Rattle.engine.proofs.masks_of.Given as goal
 
+pub record MasksTo (d : Dispatcher) (slot : ℕ) (masks : List ℕ) : Type 0 where
+  pub size : length masks ≡ slot_limit
+  pub each : (t : ℕ) → t < slot → get_or masks t 0 ≡ (task_at d t).mask
+
 abbrev pub invariant-loop-slot : goal.invariant-loop-slot
 invariant-loop-slot l = MasksTo l.d l.slot l.masks
 

@@ -15,13 +15,6 @@ use Rattle.engine.proofs.Earliest.{left_at}
 use Rattle.engine.proofs.Turning.{Going, how_many, going_start, going_left, going_can, going_fewer, going_on, going_end}
 use Rattle.engine.proofs.work_out.Goals as goal
 
-shaped : (e : tie.Start invariant-loop decreases-loop) → Shaped e.args.d
-shaped e = record {
-  tasks = simp length-map at e.well_formed.0.1.1.1.0.1.0.1;
-  order = simp length-map at e.well_formed.0.1.1.1.1.0.1.0.1;
-  seats = simp length-map at e.well_formed.0.1.1.1.1.1.0.1.0.1;
-}
-
 not_none : {d : Dispatcher} {left : List ℕ} {k : ℕ} → FirstLeft d left k → k ≢ slot_limit → IsFirst d left k
 not_none (inl F) h = F
 not_none (inr N) h = absurd (h N.is)
@@ -31,51 +24,56 @@ none_more (inl F) h = absurd (omega (arith, h, F.below))
 none_more (inr N) h = N
 
 pub loop-d-init : goal.loop-d-init
-loop-d-init c = rw c.nothing-kept.ensures (going_start (shaped c))
+loop-d-init c =
+    let L : Shaped c.args.d = record { tasks = search rules; order = search rules; seats = search rules } in
+    rw c.nothing-kept.ensures (going_start L)
 
 pub first_left-place-requires : goal.first_left-place-requires
-first_left-place-requires c = let e = c in going_left (shaped e) e.requires c.loop-d.invariant
+first_left-place-requires c =
+    let L : Shaped c.args.d = record { tasks = search rules; order = search rules; seats = search rules } in
+    going_left L c.requires c.loop-d.invariant
 
 pub returns-then-place-eq-SLOTS : goal.returns-then-place-eq-SLOTS
 returns-then-place-eq-SLOTS c =
-    let e = c in
-    going_end (shaped e) e.requires c.loop-d.invariant (none_more c.first_left-place.ensures c.if-place-eq-SLOTS.true)
-
-module _ (e : tie.Else1 invariant-loop decreases-loop) where
-  abbrev start : tie.Start invariant-loop decreases-loop
-  start = e
-
-  abbrev left : List ℕ
-  left = e.loop-d.left
-
-  G : Going start.args.d left e.loop-d.kept
-  G = e.loop-d.inv
-
-  F : IsFirst start.args.d left e.first_left-place.result
-  F = not_none e.first_left-place.ensures e.if-place-eq-SLOTS.left
-
-  read : get_or left e.first_left-place.result 0 ≡ left_at left e.first_left-place.result
-  read = get_d_any left e.first_left-place.result 0 none (omega (arith, G.size, F.below))
+    let L : Shaped c.args.d = record { tasks = search rules; order = search rules; seats = search rules } in
+    going_end L c.requires c.loop-d.invariant (none_more c.first_left-place.ensures c.if-place-eq-SLOTS.true)
 
 pub offset_bounds-left-place : goal.offset_bounds-left-place
-offset_bounds-left-place c = omega (arith, (F c).below)
+offset_bounds-left-place c =
+    let F = not_none c.first_left-place.ensures c.if-place-eq-SLOTS.false in
+    omega (arith, F.below)
 
 pub bounds-left-place : goal.bounds-left-place
-bounds-left-place c = (F c).below
+bounds-left-place c =
+    let F = not_none c.first_left-place.ensures c.if-place-eq-SLOTS.false in
+    F.below
 
 pub offset_bounds-left-place-in-loop-d : goal.offset_bounds-left-place-in-loop-d
-offset_bounds-left-place-in-loop-d c = omega (arith, (F c).below)
+offset_bounds-left-place-in-loop-d c =
+    let F = not_none c.first_left-place.ensures c.if-place-eq-SLOTS.false in
+    omega (arith, F.below)
 
 pub bounds-left-place-in-loop-d : goal.bounds-left-place-in-loop-d
-bounds-left-place-in-loop-d c = (F c).below
+bounds-left-place-in-loop-d c =
+    let F = not_none c.first_left-place.ensures c.if-place-eq-SLOTS.false in
+    F.below
 
 pub turn-kept-requires : goal.turn-kept-requires
-turn-kept-requires c = let e = c in rw (read e) (going_can (shaped (start e)) (start e).requires (G e) (F e))
+turn-kept-requires c =
+    let L : Shaped c.args.d = record { tasks = search rules; order = search rules; seats = search rules } in
+    let F = not_none c.first_left-place.ensures c.if-place-eq-SLOTS.false in
+    let read : get_or c.loop-d.left c.first_left-place.result 0 ≡ left_at c.loop-d.left c.first_left-place.result = get_d_any c.loop-d.left c.first_left-place.result 0 none (omega (arith, c.loop-d.invariant.size, F.below)) in
+    rw read (going_can L c.requires c.loop-d.invariant F)
 
 pub loop-d-smaller : goal.loop-d-smaller
-loop-d-smaller c = let e = c in going_fewer (shaped (start e)) (start e).requires (G e) (F e)
+loop-d-smaller c =
+    let L : Shaped c.args.d = record { tasks = search rules; order = search rules; seats = search rules } in
+    let F = not_none c.first_left-place.ensures c.if-place-eq-SLOTS.false in
+    going_fewer L c.requires c.loop-d.invariant F
 
 pub loop-d-preserved : goal.loop-d-preserved
 loop-d-preserved c =
-    let e = c in
-    going_on (shaped (start e)) (start e).requires (G e) (F e) e.masks_of-masks.ensures (rw (read e) at c.turn-kept.ensures)
+    let L : Shaped c.args.d = record { tasks = search rules; order = search rules; seats = search rules } in
+    let F = not_none c.first_left-place.ensures c.if-place-eq-SLOTS.false in
+    let read : get_or c.loop-d.left c.first_left-place.result 0 ≡ left_at c.loop-d.left c.first_left-place.result = get_d_any c.loop-d.left c.first_left-place.result 0 none (omega (arith, c.loop-d.invariant.size, F.below)) in
+    going_on L c.requires c.loop-d.invariant F c.masks_of-masks.ensures (rw read at c.turn-kept.ensures)

@@ -1,0 +1,16 @@
+-- `replay` meets its promise: the lines so far stand at the buffer's start, the next call is made from where they left off, and each line takes room.
+use Prim.Native.Nat.{◌-◌}
+use mathlib.Core.Path.{sym, ap, ◌∙◌}
+use native.Mathlib.Omega.{arith}
+use native.Mathlib.Nat.{le_refl, lt_of_le_of_lt}
+use borrow.Author.Rules.{rules}
+use lib.ListN.{length}
+use Rattle.days.proofs.Calling.{call_small}
+use Rattle.days.proofs.Printing.{SoFar, start, within, length_kept, stays, stops, added, more}
+use Rattle.days.proofs.replay.Given as goal
+
+abbrev pub invariant-loop-s : goal.invariant-loop-s
+invariant-loop-s l = SoFar l.file l.k l.initial.current l.initial.buffer l.buffer l.next l.length l.current
+
+abbrev pub decreases-loop-s : goal.decreases-loop-s
+decreases-loop-s l = length l.initial.buffer - l.length
