@@ -1,5 +1,6 @@
 // The boot list by value: all its records are created in order, or none.
 #![tactic(auto)]
+
 ghost use Rattle.boot.specs.Load.{Loads};
 ghost use Rattle.boot.specs.Loading.{Begins, Advances, AdvancesAll, Ends};
 

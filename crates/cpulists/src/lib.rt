@@ -3,7 +3,7 @@
 
 ghost use Rattle.std.specs.Prelude.{◌+◌, ◌*◌, ◌≤◌, ◌<◌, min, ◌≡◌, length};
 ghost use Rattle.laws.specs.Decides.{Decides};
-ghost use Rattle.masks.specs.Masks.{has as Masks·has};
+ghost use Rattle.masks.specs.Masks.{has as mask_has};
 ghost use Rattle.texts.specs.Put.{Puts};
 ghost use Rattle.cpusets.specs.Limit.{set_bits, cores_of};
 ghost use Rattle.cpusets.specs.Characters.{IsDigit};
@@ -193,7 +193,7 @@ pub fn read(text: &[u8], limit: u8) -> Reading
 }
 
 fn has(set: u64, core: u8) -> bool
-    ensures { result ≡ Masks·has set core }
+    ensures { result ≡ mask_has set core }
 {
     if core < cpusets::WIDTH {
         (set >> core) % 2 == 1

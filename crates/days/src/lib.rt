@@ -1,5 +1,6 @@
 // Replays the day that an event file says: one step makes the next call and writes its line.
 #![tactic(auto)]
+
 ghost use Rattle.std.specs.Prelude.{◌<◌, ◌≡◌};
 ghost use Rattle.files.specs.Layout.{record_count_of};
 ghost use Rattle.days.specs.Calls.{event_call_of, ReadsCall};

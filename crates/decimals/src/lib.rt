@@ -4,7 +4,7 @@
 ghost use Rattle.std.specs.Prelude.{◌+◌, ◌≤◌, ◌<◌, ◌≡◌, ◌∷◌, length};
 ghost use Rattle.texts.specs.Put.{Puts};
 ghost use Rattle.texts.specs.Joined.{space};
-ghost use Rattle.decimals.specs.Decimal.{digit as Decimal·digit, decimal};
+ghost use Rattle.decimals.specs.Decimal.{digit as decimal_digit, decimal};
 ghost use Rattle.decimals.specs.Fault.{fault_text};
 
 // No line of a refusal has more bytes, its newline included.
@@ -12,7 +12,7 @@ pub const LONGEST_FAULT: usize = 36;
 
 fn digit(d: u64) -> u8
     requires { d < 10 }
-    ensures { result ≡ Decimal·digit d }
+    ensures { result ≡ decimal_digit d }
 {
     48 + d as u8
 }

@@ -1,5 +1,6 @@
 // Delete by value: the task in a slot is ended, ready or not.
 #![tactic(auto)]
+
 ghost use Rattle.deletion.specs.Delete.{Deletes};
 
 use dispatcher::{Answer, Dispatcher, Outcome, Report, Task};

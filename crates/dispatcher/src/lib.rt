@@ -1,5 +1,6 @@
 // The dispatcher by value: its type and limits, a fresh one, and what every call answers and reports.
 #![tactic(auto)]
+
 ghost use Rattle.std.specs.Prelude.{◌≡◌};
 ghost use Rattle.laws.specs.Decides.{Decides};
 ghost use Rattle.dispatcher.specs.Limits.{LegalCount};

@@ -1,6 +1,7 @@
 // The plain engine of the test bench: the running set of a dispatcher worked out from nothing, whatever its seats are. Seating a task and freeing a core
 // call each other, and each call has fewer cores left to ask.
 #![tactic(auto)]
+
 ghost use Rattle.std.specs.Prelude.{◌≡◌};
 ghost use Rattle.laws.specs.Decides.{Decides};
 ghost use Rattle.dispatcher.specs.Sound.{Sound};

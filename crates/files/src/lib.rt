@@ -1,5 +1,6 @@
 // Reads event files: the layout of a whole file or its first fault, and its records and events one by one.
 #![tactic(auto)]
+
 ghost use Rattle.std.specs.Prelude.{◌+◌, ◌*◌, ◌≤◌, ◌<◌, ◌≡◌, length, replicate};
 ghost use Rattle.laws.specs.Decides.{Decides};
 ghost use Rattle.files.specs.Layout.{lowest_first, largest_file};

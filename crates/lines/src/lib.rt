@@ -1,5 +1,6 @@
 // Writes report lines as text into lent bytes.
 #![tactic(auto)]
+
 ghost use Rattle.std.specs.Prelude.{◌+◌, ◌≤◌, ◌≡◌, ◌∷◌, length, take};
 ghost use Rattle.texts.specs.Put.{Puts};
 ghost use Rattle.texts.specs.Joined.{space, each_after, joined};

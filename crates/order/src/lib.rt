@@ -1,5 +1,6 @@
 // The wake order: the first place of each slot in it, and a slot that joins it or leaves it.
 #![tactic(auto)]
+
 ghost use Rattle.std.specs.Prelude.{◌≡◌};
 ghost use Rattle.order.specs.Places.{FirstPlaces};
 ghost use Rattle.order.specs.ComesBefore.{place_in};

@@ -1,5 +1,6 @@
 // Wake and block by value: a task becomes ready and seeks a core, or is no longer ready and its core seeks another task.
 #![tactic(auto)]
+
 ghost use Rattle.std.specs.Prelude.{◌≡◌};
 ghost use Rattle.dispatcher.specs.Promise.{Answered};
 ghost use Rattle.readiness.specs.Wake.{wake_refusals, Wakes};

@@ -1,6 +1,7 @@
 // The search for a chain of cores: where a task may go, where the task that it pushes off may go, and so on. A task is known by its mask:
 // `masks` has the mask of the task on each core, and 0 for an idle core. Of the cores only the first n count.
 #![tactic(auto)]
+
 ghost use Rattle.std.specs.Prelude.{◌≡◌, ◌&&◌, ◌<◌, ◌≤◌, ◌%◌, ◌^◌, leb, get_or, take};
 ghost use Rattle.masks.specs.Masks.{width, has};
 ghost use Rattle.seating.proofs.Near.{lowest, walk};

@@ -1,5 +1,6 @@
 // Shifts: a waiting task seeks a core, or an idle core seeks a waiting task, along the chain that document 01 chooses. Wake and block are one of them after a change of the wake order.
 #![tactic(auto)]
+
 ghost use Rattle.std.specs.Prelude.{◌≡◌};
 ghost use Rattle.laws.specs.Decides.{Decides};
 ghost use Rattle.dispatcher.specs.Sound.{Sound};

@@ -1,6 +1,7 @@
 // What is unsound in a dispatcher. For each of document 01's conditions (a) to (e) the lowest slot, place or core that breaks it is searched
 // for, in this order: a later search relies on what the earlier ones have found kept. A search that finds none answers how many it went over.
 #![tactic(auto)]
+
 ghost use Rattle.std.specs.Prelude.{◌≡◌, ◌≢◌, true, false, length};
 ghost use Rattle.laws.specs.Decides.{Decides};
 ghost use Rattle.laws.specs.Lowest.{Throughout};

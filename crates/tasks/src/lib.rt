@@ -1,5 +1,6 @@
 // Create by value: a slot is filled, not ready. And what every call on the task in a slot refuses first.
 #![tactic(auto)]
+
 ghost use Rattle.std.specs.Prelude.{◌≡◌, ◌<◌};
 ghost use Rattle.laws.specs.Answering.{Answers};
 ghost use Rattle.dispatcher.specs.Limits.{slot_limit};

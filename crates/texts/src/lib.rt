@@ -1,5 +1,6 @@
 // Text put into lent bytes.
 #![tactic(auto)]
+
 ghost use Rattle.std.specs.Prelude.{◌≤◌, ◌<◌, ◌≡◌, ◌⊎◌, [], ◌∷◌, ◌++◌, length, take, drop};
 ghost use Rattle.texts.specs.Put.{Puts};
 ghost use Rattle.texts.specs.HandOver.{HandsOver};

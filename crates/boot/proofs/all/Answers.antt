@@ -2,7 +2,7 @@
 use Prim.Native.Nat.{ℕ, ◌+◌}
 use mathlib.Core.Path.{refl, subst}
 use native.Mathlib.Numerals.{add-one}
-use lib.ListN.{length, drop, drop_of_length-le}
+use lib.ListN.{drop, drop_of_length-le}
 use lib.Seq.{drop-cons}
 use Rattle.dispatcher.specs.Slots.{no_record}
 use Rattle.boot.specs.Loading.{AdvancesAll}

@@ -1,6 +1,5 @@
 -- `step` meets its promise: a refusal stays, and else the record is created or refused as `entry` says.
-use mathlib.Core.Path.{refl, sym, ◌∙◌}
-use borrow.Author.Rules.{rules}
+use mathlib.Core.Path.{sym, ◌∙◌}
 use Rattle.dispatcher.proofs.Promises.{slot_below}
 use Rattle.boot.proofs.step.Goals as goal
 

@@ -1,12 +1,7 @@
 -- `replay` meets its promise: the lines so far stand at the buffer's start, the next call is made from where they left off, and each line takes room.
 use Prim.Native.Nat.{◌-◌}
-use mathlib.Core.Path.{sym, ap, ◌∙◌}
-use native.Mathlib.Omega.{arith}
-use native.Mathlib.Nat.{le_refl, lt_of_le_of_lt}
-use borrow.Author.Rules.{rules}
 use lib.ListN.{length}
-use Rattle.days.proofs.Calling.{call_small}
-use Rattle.days.proofs.Printing.{SoFar, start, within, length_kept, stays, stops, added, more}
+use Rattle.days.proofs.Printing.{SoFar}
 use Rattle.days.proofs.replay.Given as goal
 
 abbrev pub invariant-loop-s : goal.invariant-loop-s

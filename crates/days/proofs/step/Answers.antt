@@ -1,10 +1,6 @@
 -- `step` meets its promise: the call that stands at the place is made by the function that makes such calls, and told.
-use mathlib.Core.Path.{refl, subst}
-use mathlib.Core.Logic.{inl, inr}
-use borrow.Author.Rules.{rules}
+use mathlib.Core.Logic.{inl}
 use Rattle.calls.specs.Call.{create, delete, wake, block}
-use Rattle.days.specs.Calls.{ReadsCall}
-use Rattle.days.proofs.Calling.{call_small}
 use Rattle.days.proofs.step.Goals as goal
 
 pub returns-in-Create : goal.returns-in-Create

@@ -1,7 +1,6 @@
 -- `deletion::delete` meets its promise: the block has been made, and the slot is emptied where it is done or answers 10.
 use mathlib.Core.Path.{◌≡◌, sym, ◌∙◌}
 use native.Mathlib.Omega.{arith}
-use borrow.Author.Rules.{rules}
 use Rattle.dispatcher.specs.Answers.{number_of}
 use Rattle.dispatcher.proofs.Promises.{called_below}
 use Rattle.deletion.proofs.Ending.{not_ready_below, not_ready_deletes, block_deletes}

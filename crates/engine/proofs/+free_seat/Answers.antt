@@ -1,5 +1,5 @@
 -- `seat` and `free` meet their promises together.
-use Rattle.engine.proofs.Searching.{asked_free, fewer_unasked, occupant_seeks, asked_held, sought_none, asks, sought_here, fewer_left, seeks_on, sought_on}
+use Rattle.engine.proofs.Searching.{fewer_unasked, occupant_seeks, asked_held, sought_here, fewer_left, seeks_on, sought_on}
 use Rattle.engine.proofs.+free_seat.Goals as goal
 
 pub free-seat-requires : goal.free-seat-requires

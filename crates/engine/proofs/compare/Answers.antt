@@ -1,6 +1,5 @@
 -- `compare` meets its promise.
 use mathlib.Core.Path.{refl, sym, ◌∙◌}
-use borrow.Author.Rules.{rules}
 use Rattle.engine.proofs.compare.Goals as goal
 
 pub returns-then-number-eq0 : goal.returns-then-number-eq0

@@ -1,13 +1,10 @@
 -- `difference` meets its promise: below the loop's slot each task is marked exactly if it has a core.
-use Prim.Native.Nat.{◌-◌}
 use mathlib.Core.Path.{◌≡◌}
-use mathlib.Core.Logic.{⊎_elim}
 use native.Mathlib.Omega.{arith}
-use lib.ListN.{length, length-map, length-take}
+use lib.ListN.{length, length-take}
 use borrow.Author.Rules.{rules}
-use borrow.Author.Tests.{not-true, not-false}
-use Rattle.dispatcher.specs.Limits.{core_limit, slot_limit}
-use Rattle.engine.proofs.Comparing.{Counted, counted_all, counted_most, AlikeTo, alike_more, lowest_difference, no_difference}
+use Rattle.dispatcher.specs.Limits.{core_limit}
+use Rattle.engine.proofs.Comparing.{Counted, counted_all, counted_most, alike_more, lowest_difference, no_difference}
 use Rattle.engine.proofs.difference.Goals as goal
 use Rattle.engine.proofs.difference.Goals.{then-n-gt-CORES, else-n-gt-CORES}
 

@@ -1,13 +1,7 @@
 -- `difference` meets its promise: below the loop's slot each task is marked exactly if it has a core.
 use Prim.Native.Nat.{◌-◌}
-use mathlib.Core.Path.{◌≡◌}
-use mathlib.Core.Logic.{⊎_elim}
-use native.Mathlib.Omega.{arith}
-use lib.ListN.{length, length-map, length-take}
-use borrow.Author.Rules.{rules}
-use borrow.Author.Tests.{not-true, not-false}
-use Rattle.dispatcher.specs.Limits.{core_limit, slot_limit}
-use Rattle.engine.proofs.Comparing.{Counted, counted_all, counted_most, AlikeTo, alike_more, lowest_difference, no_difference}
+use Rattle.dispatcher.specs.Limits.{slot_limit}
+use Rattle.engine.proofs.Comparing.{AlikeTo}
 use Rattle.engine.proofs.difference.Given as goal
 
 abbrev pub invariant-loop-slot : goal.invariant-loop-slot

@@ -1,7 +1,7 @@
 -- `first_left` meets its promise: of the places below the loop's the first of the highest priority is found.
-use Prim.Native.Nat.{ℕ, ◌<◌, ◌-◌}
+use Prim.Native.Nat.{ℕ, ◌<◌}
 use mathlib.Core.Path.{◌≡◌, sym, ap, ◌∙◌}
-use mathlib.Core.Logic.{◌≢◌, ⊎_elim}
+use mathlib.Core.Logic.{◌≢◌}
 use native.Mathlib.Omega.{arith}
 use lib.ListN.{length, get_or}
 use borrow.Author.Rules.{rules}
@@ -9,7 +9,7 @@ use Rattle.laws.proofs.Lists.{get_d_any}
 use Rattle.dispatcher.specs.Limits.{slot_limit, none}
 use Rattle.dispatcher.specs.Slots.{task_at, Shaped}
 use Rattle.order.specs.ComesBefore.{priority_of}
-use Rattle.engine.proofs.Earliest.{left_at, FirstTo, first_start, left_ready, first_skip, first_keep, first_new, first_all}
+use Rattle.engine.proofs.Earliest.{left_at, first_start, left_ready, first_skip, first_keep, first_new, first_all}
 use Rattle.engine.specs.Turns.{LeftOf}
 use Rattle.dispatcher.specs.declared.Dispatcher.{Dispatcher}
 use mathlib.Core.List.{List}
@@ -53,9 +53,9 @@ loop-k-preserved c =
     let T = c.loop-k.invariant in
     let weight = weight L c.requires c.loop-k-test.true long in
     elim c.if-slot-ne-NONE.branch [
-      then-slot-ne-NONE+then-highest-t w ↦ rw (w.first-is, w.highest-is ∙ sym weight) (first_new L c.requires l T (held L c.requires c.loop-k-test.true long w.if-slot-ne-NONE.true) (omega (arith, w.if-highest-t.true, weight)))
-    | then-slot-ne-NONE+else-highest-t w ↦ rw (w.first-is, w.highest-is) (first_keep L c.requires l T (held L c.requires c.loop-k-test.true long w.if-slot-ne-NONE.true) (omega (arith, w.if-highest-t.false, weight)))
-    | else-slot-ne-NONE w ↦ rw (w.first-is, w.highest-is) (first_skip L c.requires l T (read L c.requires c.loop-k-test.true long ∙ w.if-slot-ne-NONE.false))
+      | then-slot-ne-NONE+then-highest-t w ↦ rw (w.first-is, w.highest-is ∙ sym weight) (first_new L c.requires l T (held L c.requires c.loop-k-test.true long w.if-slot-ne-NONE.true) (omega (arith, w.if-highest-t.true, weight)))
+      | then-slot-ne-NONE+else-highest-t w ↦ rw (w.first-is, w.highest-is) (first_keep L c.requires l T (held L c.requires c.loop-k-test.true long w.if-slot-ne-NONE.true) (omega (arith, w.if-highest-t.false, weight)))
+      | else-slot-ne-NONE w ↦ rw (w.first-is, w.highest-is) (first_skip L c.requires l T (read L c.requires c.loop-k-test.true long ∙ w.if-slot-ne-NONE.false))
     ]
 
 pub returns : goal.returns

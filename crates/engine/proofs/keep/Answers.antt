@@ -1,8 +1,6 @@
 -- `keep` meets its promise.
 use mathlib.Core.Path.{sym, ◌∙◌}
 use mathlib.Core.List.{[]}
-use borrow.Author.Rules.{rules}
-use Rattle.dispatcher.specs.Sound.{Sound}
 use Rattle.dispatcher.proofs.Unsound.{done_sound}
 use Rattle.engine.proofs.Keeping.{refused_keeps, sound_keeps}
 use Rattle.engine.proofs.keep.Goals as goal

@@ -1,18 +1,11 @@
 -- `masks_of` meets its promise: the masks of the slots below the loop's stand.
-use Prim.Native.Nat.{ℕ, ◌+◌, ◌-◌, ◌≤◌, ◌<◌}
-use mathlib.Core.Path.{◌≡◌, sym, ap, ◌∙◌}
+use Prim.Native.Nat.{ℕ, ◌-◌, ◌<◌}
+use mathlib.Core.Path.{◌≡◌}
 use mathlib.Core.List.{List}
-use native.Mathlib.Decide.{ℕ_discrete, dec_lt}
-use native.Mathlib.Omega.{arith}
-use lib.ListN.{length, get_or, set, length-set, length-replicate, length-map}
-use lib.Seq.{get_or-set_same, get_or-set_other}
-use borrow.Author.Rules.{rules}
-use Rattle.laws.proofs.Lists.{get_d_beyond}
+use lib.ListN.{length, get_or}
 use Rattle.dispatcher.specs.Limits.{slot_limit}
-use Rattle.dispatcher.specs.Slots.{no_task, task_at}
-use Rattle.dispatcher.specs.declared.Task.{Task}
+use Rattle.dispatcher.specs.Slots.{task_at}
 use Rattle.dispatcher.specs.declared.Dispatcher.{Dispatcher}
-use Rattle.engine.specs.Turns.{MasksOf}
 use Rattle.engine.proofs.masks_of.Given as goal
 
 pub record MasksTo (d : Dispatcher) (slot : ℕ) (masks : List ℕ) : Type 0 where

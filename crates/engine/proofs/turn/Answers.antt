@@ -4,7 +4,6 @@ use mathlib.Core.Path.{refl}
 use mathlib.Core.Bool.{false}
 use mathlib.Core.List.{List}
 use lib.ListN.{set}
-use borrow.Author.Rules.{rules}
 use Rattle.masks.specs.Masks.{has}
 use Rattle.engine.specs.Search.{Sought}
 use Rattle.engine.specs.Turns.{Turned}

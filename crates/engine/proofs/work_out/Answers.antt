@@ -4,7 +4,7 @@ use mathlib.Core.Path.{◌≡◌}
 use mathlib.Core.Logic.{◌≢◌, inl, inr}
 use mathlib.Core.List.{List}
 use native.Mathlib.Omega.{arith}
-use lib.ListN.{get_or, length-map}
+use lib.ListN.{get_or}
 use borrow.Author.Rules.{rules}
 use Rattle.laws.proofs.Lists.{get_d_any}
 use Rattle.dispatcher.specs.Limits.{slot_limit, none}
@@ -12,7 +12,7 @@ use Rattle.dispatcher.specs.Slots.{Shaped}
 use Rattle.dispatcher.specs.declared.Dispatcher.{Dispatcher}
 use Rattle.engine.specs.Turns.{IsFirst, NoneLeft, FirstLeft}
 use Rattle.engine.proofs.Earliest.{left_at}
-use Rattle.engine.proofs.Turning.{Going, how_many, going_start, going_left, going_can, going_fewer, going_on, going_end}
+use Rattle.engine.proofs.Turning.{going_start, going_left, going_can, going_fewer, going_on, going_end}
 use Rattle.engine.proofs.work_out.Goals as goal
 
 not_none : {d : Dispatcher} {left : List ℕ} {k : ℕ} → FirstLeft d left k → k ≢ slot_limit → IsFirst d left k

@@ -1,10 +1,8 @@
 -- `bad_kind` meets its promise: no event below the loop's is bad, and none whose kind is past the file's end.
-use Prim.Native.Nat.{ℕ, ◌≤◌, ◌<◌, ◌-◌}
+use Prim.Native.Nat.{ℕ, ◌<◌}
 use native.Mathlib.Decide.{dec_lt}
 use native.Mathlib.Omega.{arith}
-use borrow.Author.Rules.{rules}
 use borrow.Author.Count.{below_more}
-use borrow.Author.Tests.{not-true, not-false}
 use Rattle.files.specs.Events.{BadAt}
 use Rattle.files.proofs.bad_kind.Goals as goal
 

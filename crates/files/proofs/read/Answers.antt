@@ -1,11 +1,6 @@
 -- `read` meets its promise: before the events each fault ends the reading where it stands.
 use mathlib.Core.Path.{refl}
 use native.Mathlib.Omega.{arith}
-use mir.Facts.{Fits-widen}
-use borrow.Author.Rules.{rules}
-use borrow.Author.Tests.{not-true, not-false}
-use Rattle.dispatcher.specs.Limits.{LegalCount}
-use Rattle.files.specs.Layout.{core_count}
 use Rattle.files.proofs.Verdicts.{bad_count, cut, many_events}
 use Rattle.files.proofs.read.Goals as goal
 

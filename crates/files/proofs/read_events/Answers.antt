@@ -1,6 +1,5 @@
 -- `read_events` meets its promise: the first bad kind is the first fault, and where there is none the end decides.
 use native.Mathlib.Omega.{arith}
-use borrow.Author.Rules.{rules}
 use Rattle.files.proofs.Verdicts.{bad_kind, ends_early, surplus, well_formed}
 use Rattle.files.proofs.read_events.Goals as goal
 

@@ -1,7 +1,5 @@
 -- `put_event` meets its contract: the number, a space, the letter, a space and the slot, one after the other.
 use native.Mathlib.Omega.{arith}
-use borrow.Author.Rules.{rules}
-use Rattle.lines.proofs.Parts.{event_length}
 use Rattle.texts.proofs.Putting.{puts_piece}
 use Rattle.lines.proofs.Pieces.{puts_last}
 use Rattle.lines.proofs.put_event.Goals as goal

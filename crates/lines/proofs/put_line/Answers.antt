@@ -2,7 +2,6 @@
 use mathlib.Core.Path.{ap}
 use native.Mathlib.Omega.{arith}
 use lib.ListN.{length, take}
-use borrow.Author.Rules.{rules}
 use Rattle.lines.proofs.Parts.{line_pieces, line_length}
 use Rattle.texts.proofs.Putting.{puts_piece}
 use Rattle.lines.proofs.put_line.Goals as goal

@@ -1,7 +1,4 @@
 -- `put_report` meets its contract: its four fields, each after a space.
-use native.Mathlib.Omega.{arith}
-use borrow.Author.Rules.{rules}
-use Rattle.lines.proofs.Parts.{report_length}
 use Rattle.texts.proofs.Putting.{puts_piece}
 use Rattle.lines.proofs.Pieces.{puts_last}
 use Rattle.lines.proofs.put_report.Goals as goal

@@ -2,7 +2,6 @@
 use mathlib.Core.Path.{ap}
 use native.Mathlib.Omega.{arith}
 use lib.ListN.{length}
-use borrow.Author.Rules.{rules}
 use Rattle.texts.proofs.Putting.{puts_then}
 use Rattle.lines.proofs.Parts.{slot_dash, slot_number}
 use Rattle.lines.proofs.put_slot.Goals as goal

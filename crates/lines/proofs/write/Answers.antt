@@ -1,14 +1,9 @@
 -- `write` meets its promise: refused for what is unsound or for 14 it writes nothing, and else it hands the line over that it has made in its own bytes.
-use Prim.Native.Nat.{◌≤◌}
-use mathlib.Core.Path.{◌≡◌, refl, sym, ◌∙◌}
+use mathlib.Core.Path.{refl, sym, ◌∙◌}
 use native.Mathlib.Omega.{arith}
-use lib.ListN.{length, length-map}
 use borrow.Author.Rules.{rules}
 use Rattle.texts.proofs.Putting.{puts_read}
-use Rattle.dispatcher.specs.Limits.{core_limit}
-use Rattle.dispatcher.specs.Sound.{Sound}
 use Rattle.dispatcher.proofs.Unsound.{done_sound}
-use Rattle.lines.specs.Line.{text_of}
 use Rattle.lines.proofs.Longest.{Wide, line_longest}
 use Rattle.lines.proofs.Standing.{writes_unsound, writes_bad_kind, writes_handed}
 use Rattle.lines.proofs.write.Goals as goal

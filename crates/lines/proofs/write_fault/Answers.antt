@@ -1,10 +1,6 @@
 -- `write_fault` meets its promise: it hands the line over that it has made in its own bytes.
-use Prim.Native.Nat.{◌≤◌}
 use native.Mathlib.Omega.{arith}
-use lib.ListN.{length}
-use borrow.Author.Rules.{rules}
 use Rattle.texts.proofs.Putting.{puts_read}
-use Rattle.decimals.specs.Fault.{fault_text}
 use Rattle.decimals.proofs.Fault.{fault_longest}
 use Rattle.lines.proofs.write_fault.Goals as goal
 

@@ -1,5 +1,4 @@
 -- `masks::add` meets its promise.
-use borrow.Author.Rules.{rules}
 use Rattle.masks.proofs.Adding.{added, none_added}
 use Rattle.masks.proofs.add.Goals as goal
 

@@ -1,6 +1,5 @@
 -- `masks::has` meets its promise: a word has no bit at or above its width.
 use mathlib.Core.Path.{refl, sym}
-use borrow.Author.Rules.{rules}
 use Rattle.masks.specs.Masks.{width}
 use Rattle.masks.proofs.Bits.{has_beyond}
 use Rattle.masks.proofs.has.Goals as goal

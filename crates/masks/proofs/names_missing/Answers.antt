@@ -1,5 +1,4 @@
 -- `masks::names_missing` meets its promise: the mask shifted down by the count is what it names from there on.
-use borrow.Author.Rules.{rules}
 use Rattle.laws.proofs.Deciding.{decides_false}
 use Rattle.masks.specs.Masks.{width}
 use Rattle.masks.proofs.Bits.{names_test, none_beyond}

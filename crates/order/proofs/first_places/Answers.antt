@@ -1,13 +1,11 @@
 -- `first_places` meets its promise: going down the list, the table has the first place of each slot among the places passed.
-use Prim.Native.Nat.{◌≤◌, ◌-◌}
+use Prim.Native.Nat.{◌-◌}
 use mathlib.Core.Path.{◌≡◌}
-use mathlib.Core.Logic.{⊎_elim}
 use native.Mathlib.Omega.{arith}
-use borrow.Author.Rules.{rules}
 use Rattle.laws.proofs.Lists.{get_d_any}
 use Rattle.dispatcher.specs.Limits.{none}
 use Rattle.order.specs.Places.{places_of}
-use Rattle.order.proofs.Placing.{Marked, marked_none, marked_slot, marked_other, marked_all}
+use Rattle.order.proofs.Placing.{marked_none, marked_slot, marked_other, marked_all}
 use Rattle.order.proofs.first_places.Goals as goal
 use Rattle.order.proofs.first_places.Goals.{then-i-gt-SLOTS, else-i-gt-SLOTS}
 

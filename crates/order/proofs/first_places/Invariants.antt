@@ -1,13 +1,7 @@
 -- `first_places` meets its promise: going down the list, the table has the first place of each slot among the places passed.
-use Prim.Native.Nat.{◌≤◌, ◌-◌}
-use mathlib.Core.Path.{◌≡◌}
-use mathlib.Core.Logic.{⊎_elim}
-use native.Mathlib.Omega.{arith}
-use borrow.Author.Rules.{rules}
-use Rattle.laws.proofs.Lists.{get_d_any}
-use Rattle.dispatcher.specs.Limits.{none}
+use Prim.Native.Nat.{◌≤◌}
 use Rattle.order.specs.Places.{places_of}
-use Rattle.order.proofs.Placing.{Marked, marked_none, marked_slot, marked_other, marked_all}
+use Rattle.order.proofs.Placing.{Marked}
 use Rattle.order.proofs.first_places.Given as goal
 
 abbrev pub invariant-loop-i : goal.invariant-loop-i

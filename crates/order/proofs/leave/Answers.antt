@@ -1,12 +1,12 @@
 -- `leave` meets its promise: the places below the loop's are as they will be, the others as they were.
-use Prim.Native.Nat.{◌+◌, ◌-◌, ◌<◌}
+use Prim.Native.Nat.{◌+◌}
 use mathlib.Core.Path.{◌≡◌}
 use native.Mathlib.Omega.{arith}
 use lib.ListN.{length, get_or-eq_default}
 use borrow.Author.Rules.{rules}
 use Rattle.laws.proofs.Lists.{get_d_any}
 use Rattle.dispatcher.specs.Limits.{slot_limit, none}
-use Rattle.order.proofs.MovingUp.{MovedUp, moved_none, moved_one, moved_all}
+use Rattle.order.proofs.MovingUp.{moved_none, moved_one, moved_all}
 use Rattle.order.proofs.leave.Goals as goal
 
 pub returns-then-k-ge-SLOTS : goal.returns-then-k-ge-SLOTS

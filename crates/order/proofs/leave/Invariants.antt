@@ -1,12 +1,7 @@
 -- `leave` meets its promise: the places below the loop's are as they will be, the others as they were.
-use Prim.Native.Nat.{◌+◌, ◌-◌, ◌<◌}
-use mathlib.Core.Path.{◌≡◌}
-use native.Mathlib.Omega.{arith}
-use lib.ListN.{length, get_or-eq_default}
-use borrow.Author.Rules.{rules}
-use Rattle.laws.proofs.Lists.{get_d_any}
-use Rattle.dispatcher.specs.Limits.{slot_limit, none}
-use Rattle.order.proofs.MovingUp.{MovedUp, moved_none, moved_one, moved_all}
+use Prim.Native.Nat.{◌-◌, ◌<◌}
+use Rattle.dispatcher.specs.Limits.{slot_limit}
+use Rattle.order.proofs.MovingUp.{MovedUp}
 use Rattle.order.proofs.leave.Given as goal
 
 abbrev pub invariant-loop-k : goal.invariant-loop-k

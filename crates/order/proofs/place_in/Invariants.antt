@@ -1,12 +1,7 @@
 -- `place_in` meets its promise: the slot stands at no place below the loop's.
 use Prim.Native.Nat.{ℕ, ◌≤◌, ◌<◌, ◌-◌}
-use mathlib.Core.Path.{sym}
 use mathlib.Core.Logic.{◌≢◌}
-use native.Mathlib.Omega.{arith}
 use lib.ListN.{length, get_or}
-use borrow.Author.Rules.{rules}
-use borrow.Author.Count.{below_more}
-use Rattle.order.proofs.Standing.{place_is, place_none}
 use Rattle.order.proofs.place_in.Given as goal
 
 abbrev pub invariant-loop-k : goal.invariant-loop-k

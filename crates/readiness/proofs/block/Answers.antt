@@ -1,7 +1,6 @@
 -- `readiness::block` meets its promise: refused, or the slot leaves the wake order, and the core on which it sat, if any, is filled.
 use mathlib.Core.Path.{refl, sym, ◌∙◌}
 use native.Mathlib.Omega.{arith}
-use lib.ListN.{length-map}
 use borrow.Author.Rules.{rules}
 use Rattle.laws.specs.Answering.{Answers}
 use Rattle.dispatcher.specs.Slots.{Shaped}

@@ -1,10 +1,8 @@
 -- `block_answer` meets its promise.
 use mathlib.Core.Path.{sym, ◌∙◌}
 use native.Mathlib.Omega.{arith}
-use borrow.Author.Rules.{rules}
-use borrow.Author.Tests.{not-true, not-false}
-use Rattle.laws.proofs.Answering.{answers_one, answers_none}
-use Rattle.tasks.proofs.Naming.{named_refused, named_then}
+use Rattle.laws.proofs.Answering.{answers_none}
+use Rattle.tasks.proofs.Naming.{named_then}
 use Rattle.readiness.proofs.block_answer.Goals as goal
 
 pub returns : goal.returns

@@ -1,5 +1,4 @@
 -- `core_of` meets its promise: the slot sits on no core below the loop's.
-use Prim.Native.Nat.{ℕ, ◌≤◌, ◌<◌, ◌-◌}
 use mathlib.Core.Path.{◌≡◌, sym, ◌∙◌}
 use mathlib.Core.Logic.{◌≢◌, inl, inr}
 use native.Mathlib.Omega.{arith}

@@ -1,12 +1,7 @@
 -- `core_of` meets its promise: the slot sits on no core below the loop's.
 use Prim.Native.Nat.{ℕ, ◌≤◌, ◌<◌, ◌-◌}
-use mathlib.Core.Path.{◌≡◌, sym, ◌∙◌}
-use mathlib.Core.Logic.{◌≢◌, inl, inr}
-use native.Mathlib.Omega.{arith}
+use mathlib.Core.Logic.{◌≢◌}
 use lib.ListN.{get_or}
-use borrow.Author.Rules.{rules}
-use borrow.Author.Count.{below_more}
-use Rattle.laws.proofs.Lists.{get_d_any}
 use Rattle.dispatcher.specs.Limits.{core_limit, none}
 use Rattle.readiness.proofs.core_of.Given as goal
 

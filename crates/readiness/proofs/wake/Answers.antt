@@ -1,12 +1,10 @@
 -- `readiness::wake` meets its promise: refused, or the slot joins the wake order and arrives.
 use mathlib.Core.Path.{sym, ◌∙◌}
-use lib.ListN.{length-map}
 use borrow.Author.Rules.{rules}
 use Rattle.laws.specs.Answering.{Answers}
 use Rattle.dispatcher.specs.Slots.{Shaped}
-use Rattle.dispatcher.proofs.Promises.{refused}
 use Rattle.readiness.specs.Wake.{wake_refusals}
-use Rattle.readiness.proofs.Turning.{joined_arriving, arrived_wakes}
+use Rattle.readiness.proofs.Turning.{joined_arriving}
 use Rattle.readiness.proofs.wake.Goals as goal
 
 pub arrive-shift-requires : goal.arrive-shift-requires

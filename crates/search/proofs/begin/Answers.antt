@@ -1,10 +1,8 @@
 -- `begin` meets its promise: the cores below the loop's have their first mark.
-use Prim.Native.Nat.{◌-◌}
 use lib.ListN.{replicate}
-use borrow.Author.Rules.{rules}
 use Rattle.masks.specs.Masks.{width}
 use Rattle.search.specs.Marks.{far}
-use Rattle.search.specs.Rounds.{first_mark_of, Filled}
+use Rattle.search.specs.Rounds.{first_mark_of}
 use Rattle.search.proofs.Arrays.{filled_start, filled_next, filled_end}
 use Rattle.search.proofs.begin.Goals as goal
 

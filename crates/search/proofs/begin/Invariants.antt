@@ -1,11 +1,6 @@
 -- `begin` meets its promise: the cores below the loop's have their first mark.
 use Prim.Native.Nat.{◌-◌}
-use lib.ListN.{replicate}
-use borrow.Author.Rules.{rules}
-use Rattle.masks.specs.Masks.{width}
-use Rattle.search.specs.Marks.{far}
 use Rattle.search.specs.Rounds.{first_mark_of, Filled}
-use Rattle.search.proofs.Arrays.{filled_start, filled_next, filled_end}
 use Rattle.search.proofs.begin.Given as goal
 
 abbrev pub invariant-loop-c : goal.invariant-loop-c

@@ -1,8 +1,6 @@
 -- `distances` meets its promise: the marks are right for as many steps as there were rounds, by fewer steps no core of the start is near, and a round that adds no core is the last.
 use Prim.Native.Nat.{◌-◌}
-use native.Mathlib.Omega.{arith}
-use borrow.Author.Rules.{rules}
-use Rattle.search.proofs.Marking.{Rounds, rounds_start, rounds_met, rounds_next, rounds_stuck, rounds_over}
+use Rattle.search.proofs.Marking.{Rounds}
 use Rattle.search.proofs.distances.Given as goal
 
 abbrev pub invariant-loop-limit : goal.invariant-loop-limit

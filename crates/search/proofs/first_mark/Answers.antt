@@ -1,6 +1,5 @@
 -- `first_mark` meets its promise.
 use mathlib.Core.Path.{sym, ◌∙◌}
-use borrow.Author.Rules.{rules}
 use Rattle.search.proofs.first_mark.Goals as goal
 
 pub returns-then-has : goal.returns-then-has

@@ -1,8 +1,6 @@
 -- `follow` meets its promise: the cores written so far and the walk that is left make the whole walk.
 use native.Mathlib.Omega.{arith}
-use borrow.Author.Rules.{rules}
-use Rattle.search.specs.Marks.{within}
-use Rattle.search.proofs.Following.{Going, going_start, going_next, going_below, going_end}
+use Rattle.search.proofs.Following.{going_start, going_next, going_below, going_end}
 use Rattle.search.proofs.follow.Goals as goal
 
 pub overflow_cast-cores : goal.overflow_cast-cores

@@ -1,8 +1,5 @@
 -- `gathered` meets its promise: the mask has those of the cores below the loop's whose mark is small enough.
-use Prim.Native.Nat.{◌-◌, ◌≤◌}
 use native.Mathlib.Omega.{arith}
-use borrow.Author.Rules.{rules}
-use Rattle.search.specs.Rounds.{Gathered}
 use Rattle.search.proofs.Gathering.{gathered_none, gathered_pass, gathered_add, gathered_all}
 use Rattle.search.proofs.gathered.Goals as goal
 use Rattle.search.proofs.gathered.Goals.{then-marks-c, else-marks-c}
@@ -16,8 +13,8 @@ loop-c-preserved c =
     let l = turn.loop-c in (
       omega (arith, turn.loop-c-test.true),
       elim c.if-marks-c.branch [
-        then-marks-c w ↦ rw w.near-is (gathered_add l.invariant.1 (omega (arith, turn.loop-c-test.true, turn.requires)) w.if-marks-c.true w.add-near.ensures)
-      | else-marks-c w ↦ rw w.near-is (gathered_pass l.invariant.1 w.if-marks-c.false)
+        | then-marks-c w ↦ rw w.near-is (gathered_add l.invariant.1 (omega (arith, turn.loop-c-test.true, turn.requires)) w.if-marks-c.true w.add-near.ensures)
+        | else-marks-c w ↦ rw w.near-is (gathered_pass l.invariant.1 w.if-marks-c.false)
       ],
     )
 

@@ -1,10 +1,6 @@
 -- `gathered` meets its promise: the mask has those of the cores below the loop's whose mark is small enough.
 use Prim.Native.Nat.{◌-◌, ◌≤◌}
-use mathlib.Core.Logic.{⊎_elim}
-use native.Mathlib.Omega.{arith}
-use borrow.Author.Rules.{rules}
 use Rattle.search.specs.Rounds.{Gathered}
-use Rattle.search.proofs.Gathering.{gathered_none, gathered_pass, gathered_add, gathered_all}
 use Rattle.search.proofs.gathered.Given as goal
 
 abbrev pub invariant-loop-c : goal.invariant-loop-c

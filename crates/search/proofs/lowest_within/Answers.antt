@@ -1,12 +1,9 @@
 -- `lowest_within` meets its promise: no core below the loop's is in the mask with a small enough mark.
-use Prim.Native.Nat.{◌≤◌, ◌-◌}
-use mathlib.Core.Path.{◌≡◌, sym, ◌∙◌}
+use mathlib.Core.Path.{sym, ◌∙◌}
 use mathlib.Core.Bool.{◌&&◌}
 use native.Mathlib.Omega.{arith}
-use borrow.Author.Rules.{rules}
 use Rattle.masks.specs.Masks.{has}
-use Rattle.seating.proofs.Rows.{first, begins, goes_on, stops, ends}
-use Rattle.seating.proofs.Near.{lowest}
+use Rattle.seating.proofs.Rows.{begins, goes_on, stops, ends}
 use Rattle.search.specs.Marks.{within}
 use Rattle.search.proofs.lowest_within.Goals as goal
 

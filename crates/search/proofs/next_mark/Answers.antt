@@ -1,6 +1,5 @@
 -- `next_mark` meets its promise: each return is the case of its two tests.
 use borrow.Author.Tests.{le-leb, lt-leb, eq-eqb, ne_eqb}
-use borrow.Author.Rules.{rules}
 use Rattle.search.proofs.next_mark.Goals as goal
 
 pub returns-then-mark-limit : goal.returns-then-mark-limit

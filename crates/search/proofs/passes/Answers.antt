@@ -1,6 +1,5 @@
 -- `passes` meets its promise.
 use mathlib.Core.Path.{sym, ◌∙◌}
-use borrow.Author.Rules.{rules}
 use Rattle.search.proofs.passes.Goals as goal
 
 pub returns-then-has : goal.returns-then-has

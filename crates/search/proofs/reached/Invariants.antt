@@ -1,8 +1,7 @@
 -- `reached` meets its promise: each sweep adds reached cores only, and one that adds none has them all.
 use Prim.Native.Nat.{◌-◌, ◌^◌}
-use native.Mathlib.Omega.{arith}
 use Rattle.masks.specs.Masks.{width}
-use Rattle.search.proofs.Sweeping.{Grown, grown_start, grown_next, grown_more, grown_end}
+use Rattle.search.proofs.Sweeping.{Grown}
 use Rattle.search.proofs.reached.Given as goal
 
 abbrev pub invariant-loop-seen : goal.invariant-loop-seen

@@ -1,9 +1,5 @@
 -- `round` meets its promise: the cores below the loop's have their next mark.
-use Prim.Native.Nat.{◌-◌}
-use lib.ListN.{get_or}
 use borrow.Author.Rules.{rules}
-use Rattle.search.specs.Marks.{mark}
-use Rattle.search.specs.Rounds.{next_mark_of, Filled}
 use Rattle.search.proofs.Arrays.{filled_start, filled_next, filled_end}
 use Rattle.search.proofs.round.Goals as goal
 

@@ -1,10 +1,8 @@
 -- `round` meets its promise: the cores below the loop's have their next mark.
 use Prim.Native.Nat.{◌-◌}
 use lib.ListN.{get_or}
-use borrow.Author.Rules.{rules}
 use Rattle.search.specs.Marks.{mark}
 use Rattle.search.specs.Rounds.{next_mark_of, Filled}
-use Rattle.search.proofs.Arrays.{filled_start, filled_next, filled_end}
 use Rattle.search.proofs.round.Given as goal
 
 abbrev pub invariant-loop-c : goal.invariant-loop-c

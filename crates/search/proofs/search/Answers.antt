@@ -1,5 +1,4 @@
 -- `search` meets its promise: the marks that the rounds end with tell whether there is a chain, and which is chosen.
-use borrow.Author.Rules.{rules}
 use Rattle.search.proofs.Following.{answer_none, answer_ready, answer_found}
 use Rattle.search.proofs.search.Goals as goal
 

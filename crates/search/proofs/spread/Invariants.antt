@@ -1,10 +1,6 @@
 -- `spread` meets its promise: the mask has what the tasks on the cores below the loop's may use.
 use Prim.Native.Nat.{◌-◌}
-use mathlib.Core.Path.{sym, ◌∙◌}
-use mathlib.Core.Logic.{⊎_elim}
-use borrow.Author.Rules.{rules}
 use Rattle.search.specs.Spread.{Spread}
-use Rattle.search.proofs.Sweeping.{spread_start, spread_pass, spread_add, spread_end}
 use Rattle.search.proofs.spread.Given as goal
 
 abbrev pub invariant-loop-c : goal.invariant-loop-c

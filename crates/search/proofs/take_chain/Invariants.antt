@@ -1,8 +1,6 @@
 -- `take_chain` meets its promise: what is left of the chain is taken by the task that is without a core.
 use Prim.Native.Nat.{◌-◌}
-use native.Mathlib.Omega.{arith}
-use borrow.Author.Rules.{rules}
-use Rattle.search.proofs.Taking.{Taking, taking_start, taking_next, taking_end}
+use Rattle.search.proofs.Taking.{Taking}
 use Rattle.search.proofs.take_chain.Given as goal
 
 abbrev pub invariant-loop-i : goal.invariant-loop-i

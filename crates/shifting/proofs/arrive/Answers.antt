@@ -1,5 +1,4 @@
 -- `arrive` meets its promise: a search to the idle cores is taken, or none of them is reached.
-use lib.ListN.{length-map}
 use borrow.Author.Rules.{rules}
 use Rattle.dispatcher.specs.Slots.{Shaped}
 use Rattle.shifting.proofs.Deciding.{searched_found, searched_nowhere, takable, idle_taken, idle_none}

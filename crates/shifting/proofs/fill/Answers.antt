@@ -1,5 +1,4 @@
 -- `fill` meets its promise: the first of the waiting tasks whose mask meets the cores that lead to the idle one takes the chain that a search finds.
-use lib.ListN.{length-map}
 use borrow.Author.Rules.{rules}
 use Rattle.dispatcher.specs.Slots.{Shaped}
 use Rattle.shifting.proofs.Deciding.{takable, first_real, nobody_starts, first_found, first_starts}

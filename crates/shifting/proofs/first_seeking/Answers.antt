@@ -1,17 +1,16 @@
 -- `first_seeking` meets its promise: of the slots at the passed places of the wake order that wait and whose mask meets the cores, the first is picked.
-use Prim.Native.Nat.{ℕ, ◌≤◌, ◌<◌, ◌-◌}
+use Prim.Native.Nat.{ℕ, ◌≤◌, ◌<◌}
 use mathlib.Core.Path.{◌≡◌, sym, ap, ◌∙◌}
-use mathlib.Core.Logic.{◌≢◌, ◌⊎◌, inl, inr, ⊎_elim}
+use mathlib.Core.Logic.{◌≢◌, ◌⊎◌, inl, inr}
 use mathlib.Core.List.{List}
 use native.Mathlib.Omega.{arith}
 use lib.Bits.{bit_and}
-use lib.Dec.{leb}
-use lib.ListN.{length, get_or, take, length-take}
+use lib.ListN.{get_or, take, length-take}
 use borrow.Author.Rules.{rules}
 use borrow.Author.Tests.{le-leb}
 use Rattle.laws.specs.Decides.{Decides}
 use Rattle.laws.proofs.Picking.{by_key, turned}
-use Rattle.dispatcher.specs.Limits.{core_limit, slot_limit, none}
+use Rattle.dispatcher.specs.Limits.{slot_limit, none}
 use Rattle.dispatcher.specs.Slots.{task_at, order_at, Ready, Shaped}
 use Rattle.dispatcher.specs.declared.Dispatcher.{Dispatcher}
 use Rattle.dispatcher.proofs.Reading.{order_read}
@@ -19,7 +18,7 @@ use Rattle.order.specs.ComesBefore.{priority_of}
 use Rattle.order.proofs.Waking.{ready_priority}
 use Rattle.shifting.specs.Board.{Waits}
 use Rattle.shifting.specs.Picking.{rank_at, seek_test, FirstSeeking}
-use Rattle.shifting.proofs.Along.{Along, along_start, along_skip, along_new, along_keep, along_all, stands_ready, stays_ahead, falls_behind, ready_passed}
+use Rattle.shifting.proofs.Along.{along_start, along_skip, along_new, along_keep, along_all, stands_ready, stays_ahead, falls_behind, ready_passed}
 use Rattle.shifting.proofs.Seeking.{wait_test, wait_tells, wait_small, ready_test_lem}
 use Rattle.dispatcher.specs.Sound.{Sound}
 use Rattle.order.specs.Places.{FirstPlaces}
@@ -102,15 +101,15 @@ loop-k-preserved c =
     let held = held c.args.lead L c.requires c.first_places-cores.ensures c.loop-k-test.true c.if-slot-eq-NONE.false in (
       omega arith,
       elim c.if-highest-t.branch [
-        then-highest-t+then-seeks w ↦
-          let told : c.if-highest-t.highest ≡ priority_of d (order_at d l.k) = omega (arith, w.highest-is, weight) in
-          rw (w.first-is ∙ sym read, told)
-          (along_new l.invariant.1 (omega arith) (turned (by_key rank)) (test ∙ sym w.seeks.ensures ∙ w.if-seeks.true)
-          (λ p b t q. le-leb (rank l.k) (rank p) (omega (arith, falls_behind L c.requires b low held (omega (arith, q, weight, w.if-highest-t.true))))))
-      | then-highest-t+else-seeks w ↦ rw (w.first-is, w.highest-is) (along_skip l.invariant.1 (test ∙ sym w.seeks.ensures ∙ w.if-seeks.false))
-      | else-highest-t w ↦ rw (w.first-is, w.highest-is)
-          (along_keep l.invariant.1 (λ z. omega (arith, z, w.if-highest-t.false, (ready_priority c.requires (ready c.args.lead L c.requires c.first_places-cores.ensures c.loop-k-test.true c.if-slot-eq-NONE.false)).0))
-          (λ _ p b t q. le-leb (rank p) (rank l.k) (omega (arith, stays_ahead L c.requires b low held (omega (arith, q, weight, w.if-highest-t.false))))))
+        | then-highest-t+then-seeks w ↦
+            let told : c.if-highest-t.highest ≡ priority_of d (order_at d l.k) = omega (arith, w.highest-is, weight) in
+            rw (w.first-is ∙ sym read, told)
+            (along_new l.invariant.1 (omega arith) (turned (by_key rank)) (test ∙ sym w.seeks.ensures ∙ w.if-seeks.true)
+            (λ p b t q. le-leb (rank l.k) (rank p) (omega (arith, falls_behind L c.requires b low held (omega (arith, q, weight, w.if-highest-t.true))))))
+        | then-highest-t+else-seeks w ↦ rw (w.first-is, w.highest-is) (along_skip l.invariant.1 (test ∙ sym w.seeks.ensures ∙ w.if-seeks.false))
+        | else-highest-t w ↦ rw (w.first-is, w.highest-is)
+            (along_keep l.invariant.1 (λ z. omega (arith, z, w.if-highest-t.false, (ready_priority c.requires (ready c.args.lead L c.requires c.first_places-cores.ensures c.loop-k-test.true c.if-slot-eq-NONE.false)).0))
+            (λ _ p b t q. le-leb (rank p) (rank l.k) (omega (arith, stays_ahead L c.requires b low held (omega (arith, q, weight, w.if-highest-t.false))))))
       ],
     )
 

@@ -1,26 +1,14 @@
 -- `first_seeking` meets its promise: of the slots at the passed places of the wake order that wait and whose mask meets the cores, the first is picked.
-use Prim.Native.Nat.{ℕ, ◌≤◌, ◌<◌, ◌-◌}
-use mathlib.Core.Path.{◌≡◌, sym, ap, ◌∙◌}
-use mathlib.Core.Logic.{◌≢◌, ◌⊎◌, inl, inr, ⊎_elim}
+use Prim.Native.Nat.{ℕ, ◌≤◌, ◌-◌}
 use mathlib.Core.List.{List}
-use native.Mathlib.Omega.{arith}
-use lib.Bits.{bit_and}
 use lib.Dec.{leb}
-use lib.ListN.{length, get_or, length-take, length-map}
-use borrow.Author.Rules.{rules}
-use borrow.Author.Tests.{le-leb}
-use Rattle.laws.specs.Decides.{Decides}
-use Rattle.laws.proofs.Picking.{by_key, turned}
-use Rattle.dispatcher.specs.Limits.{core_limit, slot_limit, none}
-use Rattle.dispatcher.specs.Slots.{task_at, order_at, Ready, Shaped}
+use Rattle.dispatcher.specs.Limits.{slot_limit, none}
+use Rattle.dispatcher.specs.Slots.{order_at}
 use Rattle.dispatcher.specs.declared.Dispatcher.{Dispatcher}
-use Rattle.dispatcher.proofs.Reading.{order_read}
 use Rattle.order.specs.ComesBefore.{priority_of}
-use Rattle.order.proofs.Waking.{ready_priority}
-use Rattle.shifting.specs.Board.{Waits}
-use Rattle.shifting.specs.Picking.{rank_at, seek_test, FirstSeeking}
-use Rattle.shifting.proofs.Along.{Along, along_start, along_skip, along_new, along_keep, along_all, stands_ready, stays_ahead, falls_behind, ready_passed}
-use Rattle.shifting.proofs.Seeking.{wait_test, wait_tells, wait_small, ready_test_lem}
+use Rattle.shifting.specs.Picking.{rank_at}
+use Rattle.shifting.proofs.Along.{Along}
+use Rattle.shifting.proofs.Seeking.{wait_test}
 use Rattle.shifting.proofs.first_seeking.Given as goal
 
 abbrev pub FirstTo : Dispatcher → List ℕ → ℕ → ℕ → ℕ → ℕ → Type 0

@@ -1,25 +1,25 @@
 -- `last_on` meets its promise: of the slots at the passed places of the wake order that sit on a core of the mask, the core of the last one is picked.
-use Prim.Native.Nat.{ℕ, ◌≤◌, ◌<◌, ◌-◌}
+use Prim.Native.Nat.{ℕ, ◌≤◌, ◌<◌}
 use mathlib.Core.Path.{◌≡◌, sym, ap, ◌∙◌}
-use mathlib.Core.Logic.{◌≢◌, ◌⊎◌, inl, inr, ⊎_elim}
+use mathlib.Core.Logic.{◌≢◌, ◌⊎◌, inl, inr}
 use mathlib.Core.Bool.{true}
 use mathlib.Core.List.{List}
 use native.Mathlib.Omega.{arith}
 use lib.Dec.{leb}
-use lib.ListN.{length, get_or, take, length-take}
+use lib.ListN.{get_or, take, length-take}
 use borrow.Author.Rules.{rules}
 use borrow.Author.Tests.{le-leb}
 use Rattle.laws.proofs.Picking.{by_key}
 use Rattle.masks.specs.Masks.{has}
-use Rattle.dispatcher.specs.Limits.{core_limit, slot_limit, none, greatest_priority}
-use Rattle.dispatcher.specs.Slots.{task_at, order_at, seat_at, Ready, Shaped}
+use Rattle.dispatcher.specs.Limits.{slot_limit, none}
+use Rattle.dispatcher.specs.Slots.{task_at, order_at, Ready, Shaped}
 use Rattle.dispatcher.specs.declared.Dispatcher.{Dispatcher}
 use Rattle.dispatcher.proofs.Reading.{order_read}
 use Rattle.order.specs.ComesBefore.{priority_of}
 use Rattle.order.proofs.Waking.{ready_priority}
 use Rattle.shifting.specs.Picking.{rank_at, LastOn}
 use Rattle.shifting.proofs.Board.{core_below}
-use Rattle.shifting.proofs.Along.{Along, along_start, along_skip, along_new, along_keep, along_all, stands_ready, stays_ahead, falls_behind, ready_passed}
+use Rattle.shifting.proofs.Along.{along_start, along_skip, along_new, along_keep, along_all, stands_ready, stays_ahead, falls_behind, ready_passed}
 use Rattle.shifting.proofs.Cores.{core_seat, seat_core}
 use Rattle.order.specs.Places.{FirstPlaces}
 use Rattle.shifting.specs.Picking.{Held}
@@ -123,14 +123,14 @@ loop-k-preserved c =
     let test = ap (has c.args.seen) core in (
       omega arith,
       elim c.if-t-lowest.branch [
-        then-t-lowest+then-has w ↦
-          let u : has c.args.seen (core_at d c.first_places-cores.result l.k) ≡ true = test ∙ sym w.has.ensures ∙ w.if-has.true in
-          let told : c.if-t-lowest.lowest ≡ priority_of d (order_at d l.k) = omega (arith, w.lowest-is, weight) in
-          rw (w.last-is ∙ sym core, told)
-          (along_new l.invariant.1 (omega arith) (by_key (rank_on d c.first_places-cores.result)) u (λ p b t q. later L c.requires c.first_places-cores.ensures c.loop-k-test.true c.if-slot-eq-NONE.false b t u (omega (arith, q, weight, w.if-t-lowest.true))))
-      | then-t-lowest+else-has w ↦ rw (w.last-is, w.lowest-is) (along_skip l.invariant.1 (test ∙ sym w.has.ensures ∙ w.if-has.false))
-      | else-t-lowest w ↦ rw (w.last-is, w.lowest-is)
-          (along_keep l.invariant.1 (λ z. omega (arith, z, w.if-t-lowest.false, (ready_priority c.requires.sound (ready L c.requires c.first_places-cores.ensures c.loop-k-test.true c.if-slot-eq-NONE.false)).1)) (λ u p b t q. earlier L c.requires c.first_places-cores.ensures c.loop-k-test.true c.if-slot-eq-NONE.false b t u (omega (arith, q, weight, w.if-t-lowest.false))))
+        | then-t-lowest+then-has w ↦
+            let u : has c.args.seen (core_at d c.first_places-cores.result l.k) ≡ true = test ∙ sym w.has.ensures ∙ w.if-has.true in
+            let told : c.if-t-lowest.lowest ≡ priority_of d (order_at d l.k) = omega (arith, w.lowest-is, weight) in
+            rw (w.last-is ∙ sym core, told)
+            (along_new l.invariant.1 (omega arith) (by_key (rank_on d c.first_places-cores.result)) u (λ p b t q. later L c.requires c.first_places-cores.ensures c.loop-k-test.true c.if-slot-eq-NONE.false b t u (omega (arith, q, weight, w.if-t-lowest.true))))
+        | then-t-lowest+else-has w ↦ rw (w.last-is, w.lowest-is) (along_skip l.invariant.1 (test ∙ sym w.has.ensures ∙ w.if-has.false))
+        | else-t-lowest w ↦ rw (w.last-is, w.lowest-is)
+            (along_keep l.invariant.1 (λ z. omega (arith, z, w.if-t-lowest.false, (ready_priority c.requires.sound (ready L c.requires c.first_places-cores.ensures c.loop-k-test.true c.if-slot-eq-NONE.false)).1)) (λ u p b t q. earlier L c.requires c.first_places-cores.ensures c.loop-k-test.true c.if-slot-eq-NONE.false b t u (omega (arith, q, weight, w.if-t-lowest.false))))
       ],
     )
 

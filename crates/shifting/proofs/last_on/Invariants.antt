@@ -1,26 +1,15 @@
 -- `last_on` meets its promise: of the slots at the passed places of the wake order that sit on a core of the mask, the core of the last one is picked.
-use Prim.Native.Nat.{ℕ, ◌≤◌, ◌<◌, ◌-◌}
-use mathlib.Core.Path.{◌≡◌, sym, ap, ◌∙◌}
-use mathlib.Core.Logic.{◌≢◌, ◌⊎◌, inl, inr, ⊎_elim}
-use mathlib.Core.Bool.{true}
+use Prim.Native.Nat.{ℕ, ◌≤◌, ◌-◌}
 use mathlib.Core.List.{List}
-use native.Mathlib.Omega.{arith}
 use lib.Dec.{leb}
-use lib.ListN.{length, get_or, length-take, length-map}
-use borrow.Author.Rules.{rules}
-use borrow.Author.Tests.{le-leb}
-use Rattle.laws.proofs.Picking.{by_key}
+use lib.ListN.{get_or}
 use Rattle.masks.specs.Masks.{has}
-use Rattle.dispatcher.specs.Limits.{core_limit, slot_limit, none, greatest_priority}
-use Rattle.dispatcher.specs.Slots.{task_at, order_at, seat_at, Ready, Shaped}
+use Rattle.dispatcher.specs.Limits.{slot_limit, greatest_priority}
+use Rattle.dispatcher.specs.Slots.{order_at, seat_at}
 use Rattle.dispatcher.specs.declared.Dispatcher.{Dispatcher}
-use Rattle.dispatcher.proofs.Reading.{order_read}
 use Rattle.order.specs.ComesBefore.{priority_of}
-use Rattle.order.proofs.Waking.{ready_priority}
-use Rattle.shifting.specs.Picking.{rank_at, LastOn}
-use Rattle.shifting.proofs.Board.{core_below}
-use Rattle.shifting.proofs.Along.{Along, along_start, along_skip, along_new, along_keep, along_all, stands_ready, stays_ahead, falls_behind, ready_passed}
-use Rattle.shifting.proofs.Cores.{core_seat, seat_core}
+use Rattle.shifting.specs.Picking.{rank_at}
+use Rattle.shifting.proofs.Along.{Along}
 use Rattle.shifting.proofs.last_on.Given as goal
 
 -- the core of the slot at place i, and the rank of what sits there

@@ -4,9 +4,8 @@ use Prim.Native.Nat.{ℕ, ◌<◌}
 use mathlib.Core.Path.{◌≡◌, refl, sym, ◌∙◌, subst}
 use mathlib.Core.Logic.{◌≢◌}
 use native.Mathlib.Omega.{arith}
-use lib.ListN.{get_or, length-map}
+use lib.ListN.{get_or}
 use borrow.Author.Rules.{rules}
-use borrow.Author.Tests.{not-true, not-false}
 use Rattle.laws.proofs.Testing.{eqb_true}
 use Rattle.masks.specs.Masks.{Added}
 use Rattle.masks.proofs.Adding.{only_core}
@@ -17,8 +16,6 @@ use Rattle.dispatcher.proofs.Reading.{seat_read}
 use Rattle.order.specs.ComesBefore.{ComesBefore}
 use Rattle.search.specs.Route.{Found, Searched}
 use Rattle.search.specs.declared.Route.{Route}
-use Rattle.shifting.specs.Shifts.{Arrived, still_at}
-use Rattle.shifting.specs.declared.Shift.{Shift}
 use Rattle.shifting.proofs.Board.{core_below}
 use Rattle.shifting.proofs.Deciding.{takable, reached_held, last_real, last_ready, must_wait, loser_found, loser_pushed}
 use Rattle.search.specs.ReachedCores.{ReachedCores}

@@ -1,16 +1,15 @@
 -- `sitters` meets its promise: of the cores below the loop's the masks of the sitters are in the table and the idle ones in the mask.
-use Prim.Native.Nat.{ℕ, ◌<◌, ◌-◌}
+use Prim.Native.Nat.{ℕ, ◌<◌}
 use mathlib.Core.Path.{◌≡◌, sym, ap, ◌∙◌}
-use mathlib.Core.Logic.{⊎_elim}
 use native.Mathlib.Omega.{arith}
-use lib.ListN.{length, get_or, length-map}
+use lib.ListN.{get_or}
 use borrow.Author.Rules.{rules}
 use Rattle.dispatcher.specs.Limits.{core_limit, slot_limit, none}
 use Rattle.dispatcher.specs.Slots.{task_at, seat_at}
 use Rattle.dispatcher.specs.declared.Dispatcher.{Dispatcher}
 use Rattle.dispatcher.proofs.Reading.{seat_read}
 use Rattle.shifting.proofs.Board.{core_below}
-use Rattle.shifting.proofs.Tabling.{SittersTo, sitters_start, sitters_held, sitters_idle, sitters_all, IdleTo, idle_start, idle_found, idle_held, idle_all}
+use Rattle.shifting.proofs.Tabling.{sitters_start, sitters_held, sitters_idle, sitters_all, idle_start, idle_found, idle_held, idle_all}
 use Rattle.dispatcher.specs.Sound.{Sound}
 use Rattle.shifting.proofs.sitters.Goals as goal
 use Rattle.shifting.proofs.sitters.Goals.{then-slot-eq-NONE, else-slot-eq-NONE}
@@ -48,11 +47,11 @@ loop-c-preserved c =
     let read : seat_at i.args.d i.loop-c.c ≡ get_or i.args.d.seats i.loop-c.c 0 = seat_read i.args.d i.loop-c.c (search rules) below in
     let inv = i.loop-c.invariant in
     elim c.if-slot-eq-NONE.branch [
-      then-slot-eq-NONE w ↦
-        let q : seat_at i.args.d i.loop-c.c ≡ none = read ∙ w.if-slot-eq-NONE.true in
-        rw (w.masks-is, w.idle-is) (sitters_idle below inv.0 (search rules) (omega arith), idle_found below inv.1 q w.add-idle.ensures)
-    | else-slot-eq-NONE w ↦
-        rw (w.masks-is, w.idle-is) (sitters_held below inv.0 (ap (λ (t : ℕ). (task_at i.args.d t).mask) (sym read)), idle_held below inv.1 (λ q. w.if-slot-eq-NONE.false (sym read ∙ q)))
+      | then-slot-eq-NONE w ↦
+          let q : seat_at i.args.d i.loop-c.c ≡ none = read ∙ w.if-slot-eq-NONE.true in
+          rw (w.masks-is, w.idle-is) (sitters_idle below inv.0 (search rules) (omega arith), idle_found below inv.1 q w.add-idle.ensures)
+      | else-slot-eq-NONE w ↦
+          rw (w.masks-is, w.idle-is) (sitters_held below inv.0 (ap (λ (t : ℕ). (task_at i.args.d t).mask) (sym read)), idle_held below inv.1 (λ q. w.if-slot-eq-NONE.false (sym read ∙ q)))
     ]
 
 pub returns : goal.returns

@@ -1,15 +1,13 @@
 -- `check` meets its promise: each search finds the lowest that breaks its condition, relying on what the earlier ones have found kept.
 use mathlib.Core.Path.{◌≡◌}
-use lib.ListN.{length, length-map}
+use lib.ListN.{length}
 use borrow.Author.Rules.{rules}
-use borrow.Author.Tests.{not-true, not-false}
 use Rattle.dispatcher.specs.Limits.{core_limit, slot_limit}
-use Rattle.dispatcher.specs.Sound.{CountLegal, SlotsLegal, PlaceKept, MissingKept, OrderKept, MissingIdle}
+use Rattle.dispatcher.specs.Sound.{PlaceKept, MissingKept}
 use Rattle.dispatcher.proofs.Unsound.{sound_answered}
 use Rattle.soundness.specs.Finds.{Finds}
-use Rattle.soundness.specs.Entries.{EntriesEnd, TellsReady}
+use Rattle.soundness.specs.Entries.{EntriesEnd}
 use Rattle.soundness.specs.Parts.{UnusedFrom}
-use Rattle.soundness.specs.declared.Woken.{Woken}
 use Rattle.soundness.proofs.Finding.{finds_lowest, finds_none, finds_of}
 use Rattle.soundness.proofs.Entering.{order_finds, tells_ready}
 use Rattle.soundness.proofs.Sitting.{seats_kept, seat_lowest}

@@ -1,13 +1,12 @@
 -- `entries` meets its promise: all places below the loop's are entered, and the table tells where among them each slot stands.
-use Prim.Native.Nat.{ℕ, ◌<◌, ◌-◌}
+use Prim.Native.Nat.{ℕ, ◌<◌}
 use mathlib.Core.Path.{◌≡◌}
 use mathlib.Core.Logic.{◌≢◌}
 use mathlib.Core.Bool.{Bool}
 use mathlib.Core.List.{List}
 use native.Mathlib.Omega.{arith}
-use lib.ListN.{get_or, length-map}
+use lib.ListN.{get_or}
 use borrow.Author.Rules.{rules}
-use borrow.Author.Tests.{not-true, not-false}
 use Rattle.laws.specs.Decides.{Decides}
 use Rattle.laws.proofs.Lists.{get_d_any}
 use Rattle.dispatcher.specs.Limits.{slot_limit, none}
@@ -16,7 +15,7 @@ use Rattle.dispatcher.specs.Sound.{Entered, SlotsLegal}
 use Rattle.dispatcher.specs.declared.Dispatcher.{Dispatcher}
 use Rattle.dispatcher.proofs.Reading.{order_read}
 use Rattle.soundness.specs.Entries.{Entries}
-use Rattle.soundness.proofs.Entering.{entries_none, place_most, entry_decides, entry_more}
+use Rattle.soundness.proofs.Entering.{entries_none, entry_decides, entry_more}
 use Rattle.soundness.proofs.entries.Goals as goal
 
 -- a slot stands there: what its test decides

@@ -1,12 +1,6 @@
 -- `illegal_slot` meets its promise: all slots below the loop's are kept.
-use Prim.Native.Nat.{ℕ, ◌≤◌, ◌<◌, ◌-◌}
-use mathlib.Core.Logic.{⊎_elim}
 use native.Mathlib.Omega.{arith}
-use borrow.Author.Rules.{rules}
 use borrow.Author.Count.{below_more}
-use borrow.Author.Tests.{not-true, not-false}
-use Rattle.dispatcher.specs.Limits.{slot_limit}
-use Rattle.dispatcher.specs.Sound.{SlotKept}
 use Rattle.soundness.proofs.illegal_slot.Goals as goal
 use Rattle.soundness.proofs.illegal_slot.Goals.{then-priority-eq0+else-mask-ne0, else-priority-eq0+else-not-legal}
 
@@ -37,8 +31,8 @@ loop-s-preserved c = (
   omega arith,
   below_more _ _ c.loop-s.invariant.1
       (elim c.if-priority-eq0.branch [
-        then-priority-eq0+else-mask-ne0 w ↦ λ u. absurd (u (w.if-priority-eq0.true, w.if-mask-ne0.false))
-      | else-priority-eq0+else-not-legal w ↦ λ u. w.legal.ensures.yes w.if-not-legal.false
+        | then-priority-eq0+else-mask-ne0 w ↦ λ u. absurd (u (w.if-priority-eq0.true, w.if-mask-ne0.false))
+        | else-priority-eq0+else-not-legal w ↦ λ u. w.legal.ensures.yes w.if-not-legal.false
       ]),
 )
 

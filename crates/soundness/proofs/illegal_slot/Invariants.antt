@@ -1,10 +1,5 @@
 -- `illegal_slot` meets its promise: all slots below the loop's are kept.
 use Prim.Native.Nat.{ℕ, ◌≤◌, ◌<◌, ◌-◌}
-use mathlib.Core.Logic.{⊎_elim}
-use native.Mathlib.Omega.{arith}
-use borrow.Author.Rules.{rules}
-use borrow.Author.Count.{below_more}
-use borrow.Author.Tests.{not-true, not-false}
 use Rattle.dispatcher.specs.Limits.{slot_limit}
 use Rattle.dispatcher.specs.Sound.{SlotKept}
 use Rattle.soundness.proofs.illegal_slot.Given as goal

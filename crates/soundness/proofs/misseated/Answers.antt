@@ -1,14 +1,13 @@
 -- `misseated` meets its promise: all cores below the loop's are kept, and the marks tell who sits there.
-use Prim.Native.Nat.{ℕ, ◌≤◌, ◌<◌, ◌-◌}
+use Prim.Native.Nat.{ℕ, ◌<◌}
 use mathlib.Core.Path.{◌≡◌}
-use mathlib.Core.Logic.{◌≢◌, ⊎_elim}
+use mathlib.Core.Logic.{◌≢◌}
 use mathlib.Core.Bool.{Bool, true, false}
 use mathlib.Core.List.{List}
 use native.Mathlib.Omega.{arith}
-use lib.ListN.{get_or, length-map}
+use lib.ListN.{get_or}
 use borrow.Author.Rules.{rules}
 use borrow.Author.Count.{below_more}
-use borrow.Author.Tests.{not-true, not-false}
 use Rattle.laws.specs.Decides.{Decides}
 use Rattle.laws.proofs.Lists.{get_d_any}
 use Rattle.masks.specs.Masks.{has}
@@ -59,12 +58,12 @@ loop-c-preserved c =
     let l = i.loop-c in
     let read : seat_at i.args.d i.loop-c.c ≡ get_or i.args.d.seats i.loop-c.c 0 = seat_read i.args.d i.loop-c.c (search rules) (omega (arith, i.loop-c-test.true, i.requires.0.1)) in
     elim c.if-slot-lt-SLOTS.branch [
-      then-slot-lt-SLOTS+else-not-may_sit w ↦ (
+      | then-slot-lt-SLOTS+else-not-may_sit w ↦ (
         omega arith,
         below_more _ _ l.invariant.1 ((tested _ i.requires.1 l.invariant.2 read w.if-slot-lt-SLOTS.true w.may_sit.ensures).yes w.if-not-may_sit.false),
         rw w.seated-is (marks_slot read l.invariant.2 w.if-slot-lt-SLOTS.true),
       )
-    | else-slot-lt-SLOTS+else-sits-ne-NONE w ↦ (
+      | else-slot-lt-SLOTS+else-sits-ne-NONE w ↦ (
         omega arith,
         below_more _ _ l.invariant.1 (seat_idle i.args.d i.loop-c.c (omega (arith, read, w.if-sits-ne-NONE.false))),
         rw w.seated-is (marks_idle read l.invariant.2 w.if-slot-lt-SLOTS.false),

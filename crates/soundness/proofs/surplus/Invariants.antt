@@ -1,14 +1,7 @@
 -- `surplus` meets its promise: either all places asked for hold the mark, or those up to the loop's do.
 use Prim.Native.Nat.{ℕ, ◌≤◌, ◌<◌, ◌-◌}
-use mathlib.Core.Path.{◌≡◌}
-use native.Mathlib.Omega.{arith}
-use lib.ListN.{length, get_or}
-use borrow.Author.Rules.{rules}
-use borrow.Author.Count.{below_more}
-use Rattle.laws.proofs.Lists.{get_d_any}
-use Rattle.dispatcher.specs.Limits.{none}
+use lib.ListN.{length}
 use Rattle.soundness.specs.Parts.{UnusedFrom}
-use Rattle.soundness.proofs.Finding.{finds_all}
 use Rattle.soundness.proofs.surplus.Given as goal
 
 abbrev pub invariant-loop-k : goal.invariant-loop-k

@@ -1,14 +1,11 @@
 -- `unused` meets its promise: `all` tells whether the places from the first one asked for up to the loop's hold the mark.
-use Prim.Native.Nat.{ℕ, ◌≤◌, ◌<◌, ◌-◌}
+use Prim.Native.Nat.{ℕ, ◌<◌}
 use mathlib.Core.Path.{◌≡◌, sym}
-use mathlib.Core.Logic.{⊎_elim}
 use native.Mathlib.Decide.{dec_lt}
 use native.Mathlib.Omega.{arith}
 use mathlib.Core.List.{List}
 use lib.ListN.{length, get_or}
-use borrow.Author.Rules.{rules}
 use borrow.Author.Count.{below_more}
-use Rattle.laws.specs.Decides.{Decides}
 use Rattle.laws.specs.Lowest.{Throughout}
 use Rattle.laws.proofs.Deciding.{decides_true, decides_false, decides_is, decides_by}
 use Rattle.laws.proofs.Lists.{get_d_any, get_d_beyond}
@@ -26,8 +23,8 @@ loop-i-preserved c =
     let l = t.loop-i in
     let read : get_or t.args.list.now l.i none ≡ get_or t.args.list.now l.i 0 = get_d_any t.args.list.now l.i none 0 t.loop-i-test.true in
     elim c.if-held-ne-NONE.branch [
-      then-held-ne-NONE w ↦ (omega arith, decides_is (sym w.all-is) (decides_false (λ h. omega (arith, w.if-held-ne-NONE.true, read, h l.i (omega arith) l.invariant.0))))
-    | else-held-ne-NONE w ↦ (omega arith, decides_is (sym w.all-is) (decides_by (λ h. below_more _ _ h (λ _. omega (arith, w.if-held-ne-NONE.false, read))) (λ h j b. h j (omega arith)) l.invariant.1))
+      | then-held-ne-NONE w ↦ (omega arith, decides_is (sym w.all-is) (decides_false (λ h. omega (arith, w.if-held-ne-NONE.true, read, h l.i (omega arith) l.invariant.0))))
+      | else-held-ne-NONE w ↦ (omega arith, decides_is (sym w.all-is) (decides_by (λ h. below_more _ _ h (λ _. omega (arith, w.if-held-ne-NONE.false, read))) (λ h j b. h j (omega arith)) l.invariant.1))
     ]
 
 -- beyond the list's end the mark stands anyway

@@ -1,5 +1,4 @@
 -- `tasks::create` meets its promise.
-use borrow.Author.Rules.{rules}
 use Rattle.dispatcher.proofs.Promises.{called_below}
 use Rattle.tasks.proofs.Settling.{settles_promised}
 use Rattle.tasks.proofs.create.Goals as goal

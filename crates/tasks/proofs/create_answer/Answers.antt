@@ -1,9 +1,8 @@
 -- `create_answer` meets its promise: what the check of soundness says comes first, and what `entry` says after it.
 use mathlib.Core.Path.{sym, ◌∙◌}
-use borrow.Author.Rules.{rules}
 use Rattle.laws.proofs.Answering.{AllLater}
 use Rattle.dispatcher.proofs.Judging.{judged_later}
-use Rattle.dispatcher.proofs.Unsound.{done_sound, unsound_first, sound_then}
+use Rattle.dispatcher.proofs.Unsound.{done_sound, sound_then}
 use Rattle.tasks.specs.Create.{entry_refusals}
 use Rattle.tasks.proofs.Model.{entry_tests, entry_judges}
 use Prim.Native.Nat.{ℕ}

@@ -2,13 +2,11 @@
 use mathlib.Core.Path.{sym, ap, ◌∙◌}
 use mathlib.Core.Bool.{not}
 use mathlib.Core.List.{[]}
-use borrow.Author.Tests.{le-leb, lt-leb}
-use borrow.Author.Rules.{rules}
+use borrow.Author.Tests.{lt-leb}
 use Rattle.laws.proofs.Answering.{AllLater}
-use Rattle.dispatcher.specs.Sound.{Sound}
 use Rattle.dispatcher.proofs.Judging.{first_of, judged_later}
 use Rattle.dispatcher.proofs.Testing.{empty_is}
-use Rattle.dispatcher.proofs.Unsound.{done_sound, unsound_first, sound_then}
+use Rattle.dispatcher.proofs.Unsound.{done_sound, sound_then}
 use Rattle.tasks.specs.Named.{slot_refusals}
 use Rattle.tasks.proofs.Model.{slot_tests, slot_judges, slot_answers}
 use Prim.Native.Nat.{ℕ}

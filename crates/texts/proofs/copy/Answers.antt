@@ -1,5 +1,5 @@
 -- `copy` meets its contract. The loop's invariant: the bytes passed are copied and the others are as before. The measure is what is left to copy.
-use Prim.Native.Nat.{ℕ, ◌+◌, ◌-◌, ◌≤◌, ◌<◌}
+use Prim.Native.Nat.{ℕ, ◌+◌, ◌<◌}
 use mathlib.Core.Path.{◌≡◌, refl}
 use mathlib.Core.List.{List, ◌++◌}
 use native.Mathlib.Nat.{zero-add}
@@ -7,7 +7,6 @@ use native.Mathlib.Numerals.{add-one}
 use native.Mathlib.Omega.{arith}
 use lib.ListN.{length, take, drop, get_or, set, length-set}
 use lib.Seq.{paste-suc}
-use borrow.Author.Rules.{rules}
 use Rattle.texts.proofs.copy.Goals as goal
 
 -- a turn's store: `paste-suc` at place 0

@@ -1,10 +1,8 @@
 -- `hand_over` meets its contract: the whole text is copied where it fits, and else nothing.
-use mathlib.Core.Path.{◌≡◌}
 use mathlib.Core.Logic.{inl, inr}
 use native.Mathlib.Omega.{arith}
-use lib.ListN.{length, take}
+use lib.ListN.{length}
 use lib.Seq.{length-take-le}
-use borrow.Author.Rules.{rules}
 use Rattle.laws.proofs.Deciding.{decides_le}
 use Rattle.texts.proofs.hand_over.Goals as goal
 

@@ -1,5 +1,4 @@
 -- `put_byte` meets its contract: one byte that is set is a text of one byte that is put.
-use borrow.Author.Rules.{rules}
 use Rattle.texts.proofs.Putting.{puts_one}
 use Rattle.texts.proofs.put_byte.Goals as goal
 
