@@ -6,4 +6,4 @@ use Rattle.replay.specs.declared.Input.TheVariants.{Bytes, Failed}
 
 abbrev pub Within : List ℕ → Input → Type 0
 Within file (Bytes n) = IsPrefixLen n file
-Within file Failed = Unit {0}
+Within file (Failed error) = Unit {0}
