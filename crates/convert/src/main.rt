@@ -199,22 +199,31 @@ fn read_on(
     Held::Over
 }
 
-// A line that does not fit, its newline included, is too long. The window stands on the stack, of which Linux gives a program 8 MiB unless it is told otherwise.
-const WINDOW: usize = 4194304;
-
-// A proved loop has to end, and nothing says that the input does: so it counts its turns down, from a number that no run uses up.
-fn convert(rt: &(impl Print + Eprint), input: &mut impl Read, format: Format, limit: u8) {
-    let mut space = [0u8; WINDOW];
-    let window: &mut [u8] = &mut space;
+// Reads on until all is over. A proved loop has to end, and nothing says that the input does: so it takes its turns from a range that no run uses up.
+fn read_to_end(
+    rt: &(impl Print + Eprint),
+    input: &mut impl Read,
+    window: &mut [u8],
+    format: Format,
+    limit: u8,
+)
+    requires { 0 < length window.old }
+{
     let mut held: usize = 0;
-    let mut turns = u64::MAX;
-    while turns > 0 {
+    for _ in 0..u64::MAX {
         match read_on(rt, input, window, held, format, limit) {
             Held::Bytes(n) => held = n,
             Held::Over => return,
         }
-        turns -= 1;
     }
+}
+
+// A line that does not fit, its newline included, is too long. The window stands on the stack, of which Linux gives a program 8 MiB unless it is told otherwise.
+const WINDOW: usize = 4194304;
+
+fn convert(rt: &(impl Print + Eprint), input: &mut impl Read, format: Format, limit: u8) {
+    let mut window = [0u8; WINDOW];
+    read_to_end(rt, input, &mut window, format, limit);
 }
 
 // A limit where none is given.
