@@ -4,8 +4,8 @@
     python3 tools/test_bench.py [COMMAND]
 
 It must print the stored lines, `agree` after each, and at the end `agree N` with their number; of a refused
-file the one stored line. COMMAND is the program under test, target/bin/bench where it is not given
-(`rt check bench` builds it).
+file the one stored line. COMMAND is the program under test, crates/bench/out/bench where it is not given
+(`rt run` in crates/bench builds it).
 """
 
 import shlex
@@ -17,7 +17,7 @@ sys.dont_write_bytecode = True
 
 from engine import DATA, ROOT
 
-PROGRAM = [str(ROOT / "target" / "bin" / "bench")]
+PROGRAM = [str(ROOT / "crates" / "bench" / "out" / "bench")]
 
 
 def wanted(lines):
@@ -43,7 +43,7 @@ def fault(path):
 def main():
     PROGRAM[:] = shlex.split(sys.argv[1]) if len(sys.argv) > 1 else PROGRAM
     if not shutil.which(PROGRAM[0]):
-        sys.exit(f"{PROGRAM[0]} is not built (`rt check bench` builds it)")
+        sys.exit(f"{PROGRAM[0]} is not built (`rt run` in crates/bench builds it)")
     days = sorted(DATA.glob("*.day"))
     for path in days:
         found = fault(path)

@@ -3,8 +3,8 @@
 
     python3 tools/test_convert.py [COMMAND]
 
-COMMAND is the program under test, target/bin/convert where it is not given
-(`rt check convert` builds it).
+COMMAND is the program under test, crates/convert/out/convert where it is not given
+(`rt run` in crates/convert builds it).
 """
 
 import shlex
@@ -20,7 +20,7 @@ from cpusets import convert
 from dice import Dice
 from test_cpusets import LIMITS, mutated, random_list, random_mask
 
-PROGRAM = [str(Path(__file__).resolve().parent.parent / "target" / "bin" / "convert")]
+PROGRAM = [str(Path(__file__).resolve().parent.parent / "crates" / "convert" / "out" / "convert")]
 FORMS = {"list": random_list, "mask": random_mask}
 
 
@@ -92,5 +92,5 @@ if __name__ == "__main__":
     if len(sys.argv) > 1:
         PROGRAM[:] = shlex.split(sys.argv.pop(1))
     if not shutil.which(PROGRAM[0]):
-        sys.exit(f"{PROGRAM[0]} is missing: `rt check convert` builds it")
+        sys.exit(f"{PROGRAM[0]} is missing: `rt run` in crates/convert builds it")
     unittest.main()

@@ -1,6 +1,7 @@
 // Reads an event file on standard input and replays it. After each call's line stands `agree`, or `differ SLOT` with the lowest slot that the plain engine keeps
 // and the dispatcher does not run, or the other way round; the last line counts the lines that agree. A refused file has the one line that says why.
 #![tactic(auto)]
+
 ghost use Rattle.std.specs.Prelude.{◌+◌, ◌≤◌, ◌<◌, ◌≡◌, ◌++◌, length};
 ghost use Rattle.texts.specs.Put.{Puts};
 ghost use Rattle.decimals.specs.Decimal.{decimal};
@@ -9,8 +10,9 @@ ghost use Rattle.bench.specs.Text.{verdict_text, last_text};
 
 use dispatcher::{Answer, Dispatcher};
 use files::Reading;
-use libc::{STDIN_FILENO, STDOUT_FILENO};
 use lines::Line;
+use std::io;
+use std::io::{Eprint, Print};
 
 // Of the lines so far: how many agree, and the number and slot of the first that does not; its slot is NONE where there is none.
 #[derive(Clone, Copy)]
@@ -89,28 +91,27 @@ const LONGEST_VERDICT: usize = 13;
 // No last line has more.
 const LONGEST_LAST: usize = 106;
 
-fn print_verdict(slot: u16) -> bool {
+fn print_verdict(rt: &impl Print, slot: u16) -> io::Result<()> {
     let mut text = [0u8; LONGEST_VERDICT];
     let n = put_verdict(&mut text, slot);
-    io::write_all(STDOUT_FILENO, &text[..n])
+    rt.write_all(&text[..n])
 }
 
-fn print_last(t: Tally, lines: usize) -> bool {
+fn print_last(rt: &impl Print, t: Tally, lines: usize) -> io::Result<()> {
     let mut text = [0u8; LONGEST_LAST];
     let n = put_last(&mut text, t, lines);
-    io::write_all(STDOUT_FILENO, &text[..n])
+    rt.write_all(&text[..n])
 }
 
-// What a call left: whether its lines could be written, the lowest slot that differs or NONE, and the dispatcher.
+// What a call left: the lowest slot that differs or NONE, and the dispatcher.
 #[derive(Clone, Copy)]
 struct Made {
-    printed: bool,
     slot: u16,
     dispatcher: Dispatcher,
 }
 
 // Makes call k and prints its line and whether engine and dispatcher agree. A line has room whatever its numbers are.
-fn print_call(file: &[u8], k: usize, d: Dispatcher) -> Made {
+fn print_call(rt: &impl Print, file: &[u8], k: usize, d: Dispatcher) -> io::Result<Made> {
     let mut line = [0u8; Line::LONGEST];
     let s = days::step(file, k, d, &mut line);
     let written = s.written;
@@ -118,16 +119,13 @@ fn print_call(file: &[u8], k: usize, d: Dispatcher) -> Made {
     let dispatcher = s.dispatcher;
     let compared = engine::compare(dispatcher);
     let slot = compared.slot;
-    let printed = io::write_all(STDOUT_FILENO, &line[..length]) && print_verdict(slot);
-    Made {
-        printed,
-        slot,
-        dispatcher,
-    }
+    rt.write_all(&line[..length])?;
+    print_verdict(rt, slot)?;
+    Ok(Made { slot, dispatcher })
 }
 
-// Prints the day; whether it could be written.
-fn print_day(file: &[u8], cores: u8, calls: usize) -> bool {
+// Prints the day, or fails where it can't be written.
+fn print_day(rt: &impl Print, file: &[u8], cores: u8, calls: usize) -> io::Result<()> {
     let fresh = Dispatcher::fresh(cores);
     let mut d = fresh.dispatcher;
     let mut t = Tally {
@@ -137,53 +135,42 @@ fn print_day(file: &[u8], cores: u8, calls: usize) -> bool {
     };
     let mut line: usize = 0;
     while line < calls {
-        let made = print_call(file, line, d);
-        if !made.printed {
-            return false;
-        }
+        let made = print_call(rt, file, line, d)?;
         line += 1;
         t = counted(t, line, made.slot);
         d = made.dispatcher;
     }
-    print_last(t, calls)
+    print_last(rt, t, calls)
 }
 
-fn print_fault(answer: Answer, offset: usize) -> bool {
+fn print_fault(rt: &impl Print, answer: Answer, offset: usize) -> io::Result<()> {
     let mut line = [0u8; Line::LONGEST_FAULT];
     let w = lines::write_fault(answer.number(), offset, &mut line);
     let length = w.length;
-    io::write_all(STDOUT_FILENO, &line[..length])
+    rt.write_all(&line[..length])
 }
 
-fn print(file: &[u8]) -> bool {
+fn print(rt: &impl Print, file: &[u8]) -> io::Result<()> {
     match files::read(file) {
         Reading::Layout {
             cores,
             records,
             events,
-        } => print_day(file, cores, records + events),
-        Reading::Refused { answer, offset } => print_fault(answer, offset),
+        } => print_day(rt, file, cores, records + events),
+        Reading::Refused { answer, offset } => print_fault(rt, answer, offset),
     }
 }
 
-fn answer(file: &[u8]) {
-    if !print(file) {
-        os::fail(b"standard output");
+fn answer(rt: &(impl Print + Eprint), file: &[u8]) {
+    if let Err(error) = print(rt, file) {
+        host::fail(rt, "standard output", error);
     }
 }
 
-// Whether nothing more comes on standard input; not so where a read fails.
-fn is_at_end() -> bool {
-    let mut one = [0u8; 1];
-    libc::read(STDIN_FILENO, &mut one) == 0
-}
-
-fn main() {
+fn main(rt: HostRuntime) {
     let mut file = files::room();
-    let n = io::read_full(STDIN_FILENO, &mut file);
-    // A read that fails ends the reading too, and fails again.
-    if n < file.len() && !is_at_end() {
-        return os::fail(b"standard input");
+    match host::read_full(&mut rt.stdin(), &mut file) {
+        Ok(n) => answer(&rt, &file[..n]),
+        Err(error) => host::fail(&rt, "standard input", error),
     }
-    answer(&file[..n]);
 }

@@ -1,6 +1,7 @@
 // Turns core sets from one format of Linux cpuset(7) into the other, line by line, from standard input to standard output. Its first argument is the format
 // that it reads, `list` or `mask`; its second is the limit on cores, 1 to 64, and 32 where there is none. A line that is refused gives `refused N at OFFSET`.
 #![tactic(auto)]
+
 ghost use Rattle.std.specs.Prelude.{◌≤◌, ◌<◌, length};
 ghost use Rattle.masks.specs.Masks.{NamesMissing};
 ghost use Rattle.cpusets.specs.Limit.{cores_of};
@@ -9,7 +10,8 @@ ghost use Rattle.convert.specs.Turn.{ReadsIn, WritesOut, LineOf, Turns, line_roo
 ghost use Rattle.convert.specs.Window.{PrintsWithin, HoldsWithin};
 
 use cpusets::{Reading, Written};
-use libc::{STDERR_FILENO, STDIN_FILENO, STDOUT_FILENO};
+use std::io::{Eprint, Print, Read};
+use std::rt::Env;
 
 // The format that is read; the other one is written.
 #[derive(Clone, Copy)]
@@ -60,11 +62,11 @@ fn turn(text: &[u8], format: Format, limit: u8, line: &mut [u8]) -> usize
 }
 
 // Prints what one line gives; whether it could be written.
-fn print_line(text: &[u8], format: Format, limit: u8) -> bool {
+fn print_line(rt: &(impl Print + Eprint), text: &[u8], format: Format, limit: u8) -> bool {
     let mut line = [0u8; ROOM];
     let length = turn(text, format, limit, &mut line);
-    if !io::write_all(STDOUT_FILENO, &line[..length]) {
-        os::fail(b"standard output");
+    if let Err(error) = rt.write_all(&line[..length]) {
+        host::fail(rt, "standard output", error);
         return false;
     }
     true
@@ -93,14 +95,20 @@ enum Printed {
 }
 
 // Prints what each line gives that has its newline. Among the first bytes, as many as were held back, there is none.
-fn print_lines(bytes: &[u8], held: usize, format: Format, limit: u8) -> Printed
+fn print_lines(
+    rt: &(impl Print + Eprint),
+    bytes: &[u8],
+    held: usize,
+    format: Format,
+    limit: u8,
+) -> Printed
     requires { held ≤ length bytes.now }
     ensures { PrintsWithin bytes.now result }
 {
     let mut from: usize = 0;
     let mut end = line_end(bytes, held);
     while end < bytes.len() {
-        if !print_line(&bytes[from..end], format, limit) {
+        if !print_line(rt, &bytes[from..end], format, limit) {
             return Printed::Failed;
         }
         from = end + 1;
@@ -133,65 +141,89 @@ fn move_back(window: &mut [u8], from: usize, to: usize) -> usize
 
 // Holds back the line that has begun. One that fills the window is said to be too long, and the lines after it are left too: where one is left out, what we
 // print no longer stands line by line beside what we read.
-fn hold(window: &mut [u8], from: usize, to: usize) -> Held
+fn hold(rt: &impl Eprint, window: &mut [u8], from: usize, to: usize) -> Held
     requires { (from ≤ to) × (to ≤ length window.old) }
     ensures { HoldsWithin window.new result }
 {
     let held = move_back(window, from, to);
     if held == window.len() {
-        io::write_all(STDERR_FILENO, b"standard input: a line is too long\n");
+        let _ = rt.eprintln("standard input: a line is too long");
         return Held::Over;
     }
     Held::Bytes(held)
 }
 
 // Prints what the lines give that are whole, and holds back the one after them.
-fn take_lines(window: &mut [u8], held: usize, filled: usize, format: Format, limit: u8) -> Held
+fn take_lines(
+    rt: &(impl Print + Eprint),
+    window: &mut [u8],
+    held: usize,
+    filled: usize,
+    format: Format,
+    limit: u8,
+) -> Held
     requires { (held ≤ filled) × (filled ≤ length window.old) }
     ensures { HoldsWithin window.new result }
 {
-    match print_lines(&window[..filled], held, format, limit) {
-        Printed::To(from) => hold(window, from, filled),
+    match print_lines(rt, &window[..filled], held, format, limit) {
+        Printed::To(from) => hold(rt, window, from, filled),
         Printed::Failed => Held::Over,
     }
 }
 
 // Reads once. Where nothing more comes, what is held back is the last line, which lacks its newline.
-fn read_on(window: &mut [u8], held: usize, format: Format, limit: u8) -> Held
+fn read_on(
+    rt: &(impl Print + Eprint),
+    input: &mut impl Read,
+    window: &mut [u8],
+    held: usize,
+    format: Format,
+    limit: u8,
+) -> Held
     requires { held < length window.old }
     ensures { HoldsWithin window.new result }
 {
-    let got = libc::read(STDIN_FILENO, &mut window[held..]);
-    if got < 0 {
-        os::fail(b"standard input");
-        return Held::Over;
-    }
-    let more = io::count(got, &window[held..]);
+    let more = match input.read(&mut window[held..]) {
+        Ok(more) => more,
+        Err(error) => {
+            host::fail(rt, "standard input", error);
+            return Held::Over;
+        }
+    };
     if 0 < more {
-        return take_lines(window, held, held + more, format, limit);
+        return take_lines(rt, window, held, held + more, format, limit);
     }
     if 0 < held {
-        print_line(&window[..held], format, limit);
+        print_line(rt, &window[..held], format, limit);
     }
     Held::Over
+}
+
+// Reads on until all is over. A proved loop has to end, and nothing says that the input does: so it takes its turns from a range that no run uses up.
+fn read_to_end(
+    rt: &(impl Print + Eprint),
+    input: &mut impl Read,
+    window: &mut [u8],
+    format: Format,
+    limit: u8,
+)
+    requires { 0 < length window.old }
+{
+    let mut held: usize = 0;
+    for _ in 0..u64::MAX {
+        match read_on(rt, input, window, held, format, limit) {
+            Held::Bytes(n) => held = n,
+            Held::Over => return,
+        }
+    }
 }
 
 // A line that does not fit, its newline included, is too long. The window stands on the stack, of which Linux gives a program 8 MiB unless it is told otherwise.
 const WINDOW: usize = 4194304;
 
-// A proved loop has to end, and nothing says that the input does: so it counts its turns down, from a number that no run uses up.
-fn convert(format: Format, limit: u8) {
-    let mut space = [0u8; WINDOW];
-    let window: &mut [u8] = &mut space;
-    let mut held: usize = 0;
-    let mut turns = u64::MAX;
-    while turns > 0 {
-        match read_on(window, held, format, limit) {
-            Held::Bytes(n) => held = n,
-            Held::Over => return,
-        }
-        turns -= 1;
-    }
+fn convert(rt: &(impl Print + Eprint), input: &mut impl Read, format: Format, limit: u8) {
+    let mut window = [0u8; WINDOW];
+    read_to_end(rt, input, &mut window, format, limit);
 }
 
 // A limit where none is given.
@@ -225,38 +257,35 @@ fn number(word: &[u8]) -> u8 {
 }
 
 // The limit that the second argument says, if there is one; 0 or one above the highest where it says none.
-fn limit() -> u8 {
-    if os::arg_count() < 3 {
+fn limit(env: &impl Env) -> u8 {
+    if host::arg_count(env) < 3 {
         return USUAL_LIMIT;
     }
     let mut word = [0u8; 64];
-    let length = os::arg(2, &mut word);
+    let length = host::arg(env, 2, &mut word);
     number(&word[..length])
 }
 
-fn is_format(name: &[u8]) -> bool {
+fn is_format(env: &impl Env, name: &[u8]) -> bool {
     let mut word = [0u8; 4];
-    let length = os::arg(1, &mut word);
-    check::same(&word[..length], name)
+    let length = host::arg(env, 1, &mut word);
+    &word[..length] == name
 }
 
-fn usage() {
-    io::write_all(
-        STDERR_FILENO,
-        b"usage: convert list|mask [LIMIT], LIMIT from 1 to 64\n",
-    );
+fn usage(rt: &impl Eprint) {
+    let _ = rt.eprintln("usage: convert list|mask [LIMIT], LIMIT from 1 to 64");
 }
 
-fn main() {
-    let limit = limit();
-    if 3 < os::arg_count() || limit == 0 || cpusets::WIDTH < limit {
-        return usage();
+fn main(rt: HostRuntime) {
+    let limit = limit(&rt);
+    if 3 < host::arg_count(&rt) || limit == 0 || cpusets::WIDTH < limit {
+        return usage(&rt);
     }
-    if is_format(b"list") {
-        return convert(Format::List, limit);
+    if is_format(&rt, b"list") {
+        return convert(&rt, &mut rt.stdin(), Format::List, limit);
     }
-    if is_format(b"mask") {
-        return convert(Format::Mask, limit);
+    if is_format(&rt, b"mask") {
+        return convert(&rt, &mut rt.stdin(), Format::Mask, limit);
     }
-    usage();
+    usage(&rt);
 }

@@ -1,36 +1,29 @@
 // Reads an event file on standard input and prints its day, a line for each call, or the one line that says why the file is refused.
 #![tactic(auto)]
+
 ghost use Rattle.replay.specs.Input.{Within};
 
 use dispatcher::{Answer, Dispatcher};
 use files::Reading;
-use libc::{STDIN_FILENO, STDOUT_FILENO};
 use lines::Line;
+use std::io;
+use std::io::{Eprint, Print, Read};
 
-// What came on standard input, or that a read failed.
+// What came on standard input, or why a read failed.
 #[derive(Clone, Copy)]
 enum Input {
     Bytes(usize),
-    Failed,
+    Failed(io::Error),
 }
 
 // Reads until the input ends or the bytes are full.
-fn read_input(file: &mut [u8]) -> Input
+fn read_input(input: &mut impl Read, file: &mut [u8]) -> Input
     ensures { Within file.new result }
 {
-    let mut n: usize = 0;
-    while n < file.len() {
-        let got = libc::read(STDIN_FILENO, &mut file[n..]);
-        if got < 0 {
-            return Input::Failed;
-        }
-        let more = io::count(got, &file[n..]);
-        if more == 0 {
-            return Input::Bytes(n);
-        }
-        n += more;
+    match host::read_full(input, file) {
+        Ok(n) => Input::Bytes(n),
+        Err(error) => Input::Failed(error),
     }
-    Input::Bytes(n)
 }
 
 // Where a day stands: the next call, and the dispatcher before it.
@@ -40,13 +33,16 @@ struct Place {
     dispatcher: Dispatcher,
 }
 
+// The bytes of a block.
+const BLOCK: usize = 65536;
+
 // Prints as many lines as a block holds. Where they can't be written the place stays.
-fn print_block(file: &[u8], next: usize, d: Dispatcher) -> Place {
-    let mut block = io::large_buffer();
+fn print_block(rt: &(impl Print + Eprint), file: &[u8], next: usize, d: Dispatcher) -> Place {
+    let mut block = [0u8; BLOCK];
     let r = days::replay(file, next, d, &mut block);
     let length = r.length;
-    if !io::write_all(STDOUT_FILENO, &block[..length]) {
-        os::fail(b"standard output");
+    if let Err(error) = rt.write_all(&block[..length]) {
+        host::fail(rt, "standard output", error);
         return Place {
             next,
             dispatcher: d,
@@ -59,12 +55,12 @@ fn print_block(file: &[u8], next: usize, d: Dispatcher) -> Place {
     }
 }
 
-fn print_day(file: &[u8], cores: u8, calls: usize) {
+fn print_day(rt: &(impl Print + Eprint), file: &[u8], cores: u8, calls: usize) {
     let fresh = Dispatcher::fresh(cores);
     let mut d = fresh.dispatcher;
     let mut next: usize = 0;
     while next < calls {
-        let place = print_block(file, next, d);
+        let place = print_block(rt, file, next, d);
         if place.next <= next {
             return;
         }
@@ -73,30 +69,30 @@ fn print_day(file: &[u8], cores: u8, calls: usize) {
     }
 }
 
-fn print_fault(answer: Answer, offset: usize) {
+fn print_fault(rt: &(impl Print + Eprint), answer: Answer, offset: usize) {
     let mut line = [0u8; Line::LONGEST_FAULT];
     let w = lines::write_fault(answer.number(), offset, &mut line);
     let length = w.length;
-    if !io::write_all(STDOUT_FILENO, &line[..length]) {
-        os::fail(b"standard output");
+    if let Err(error) = rt.write_all(&line[..length]) {
+        host::fail(rt, "standard output", error);
     }
 }
 
-fn print(file: &[u8]) {
+fn print(rt: &(impl Print + Eprint), file: &[u8]) {
     match files::read(file) {
         Reading::Layout {
             cores,
             records,
             events,
-        } => print_day(file, cores, records + events),
-        Reading::Refused { answer, offset } => print_fault(answer, offset),
+        } => print_day(rt, file, cores, records + events),
+        Reading::Refused { answer, offset } => print_fault(rt, answer, offset),
     }
 }
 
-fn main() {
+fn main(rt: HostRuntime) {
     let mut file = files::room();
-    match read_input(&mut file) {
-        Input::Bytes(n) => print(&file[..n]),
-        Input::Failed => os::fail(b"standard input"),
+    match read_input(&mut rt.stdin(), &mut file) {
+        Input::Bytes(n) => print(&rt, &file[..n]),
+        Input::Failed(error) => host::fail(&rt, "standard input", error),
     }
 }

@@ -1,6 +1,7 @@
 // Says what is unsound in dispatchers that were dumped from memory. Each argument names a file with the bytes of C's `struct makxirund_dispatcher`; its line
 // is `FILE NUMBER PLACE`, 0 and 0 where the dispatcher is sound, or `FILE is no dump` where the file can't be read or has more or fewer bytes.
 #![tactic(auto)]
+
 ghost use Rattle.std.specs.Prelude.{◌+◌, ◌*◌, ◌≤◌, ◌<◌, ◌≡◌, length};
 ghost use Rattle.dispatcher.specs.Limits.{slot_limit, none};
 ghost use Rattle.dispatcher.specs.Slots.{no_task};
@@ -9,7 +10,9 @@ ghost use Rattle.unsound.specs.Dump.{IsDump, TaskIn, NumberIn, Entries, Dumps};
 ghost use Rattle.unsound.specs.Judge.{Judges};
 
 use dispatcher::{Answer, Dispatcher, Task};
-use libc::{STDERR_FILENO, STDOUT_FILENO};
+use std::io::{Eprint, Print};
+use std::rt::{Env, Files};
+use std::{fs, io, str};
 
 // The tasks begin after the core count and padding.
 const TASKS_AT: usize = 4;
@@ -119,66 +122,70 @@ fn judge(bytes: &[u8]) -> Verdict
     Verdict::Judged(soundness::check(d))
 }
 
-fn judge_file(name: &[u8]) -> Verdict {
-    let file = os::open_read(name);
-    if file < 0 {
+fn judge_file(files: &impl Files, name: &[u8]) -> Verdict {
+    let Ok(path) = str::from_utf8(name) else {
         return Verdict::NoDump;
-    }
+    };
+    let Ok(mut file) = fs::open(files, path) else {
+        return Verdict::NoDump;
+    };
     // One byte more than a dump has: a longer file is known by it.
     let mut bytes = [0u8; DUMP + 1];
-    let n = io::read_full(file, &mut bytes);
-    libc::close(file);
-    judge(&bytes[..n])
+    match host::read_full(&mut file, &mut bytes) {
+        Ok(n) => judge(&bytes[..n]),
+        Err(_) => Verdict::NoDump,
+    }
 }
 
-// A space and a number; whether they could be written.
-fn print_number(n: u64) -> bool {
-    io::write_all(STDOUT_FILENO, b" ") && io::print_decimal(STDOUT_FILENO, n)
+// A space and a number.
+fn print_number(rt: &impl Print, n: u64) -> io::Result<()> {
+    print!(rt; " {n}")
 }
 
-fn print_verdict(verdict: Verdict) -> bool {
+fn print_verdict(rt: &impl Print, verdict: Verdict) -> io::Result<()> {
     match verdict {
-        Verdict::NoDump => io::write_all(STDOUT_FILENO, b" is no dump"),
+        Verdict::NoDump => rt.write_all(b" is no dump"),
         Verdict::Judged(answer) => {
-            print_number(answer.number() as u64) && print_number(answer.place() as u64)
+            print_number(rt, answer.number() as u64)?;
+            print_number(rt, answer.place() as u64)
         }
     }
 }
 
-fn print_line(name: &[u8]) -> bool {
-    let verdict = judge_file(name);
-    io::write_all(STDOUT_FILENO, name)
-        && print_verdict(verdict)
-        && io::write_all(STDOUT_FILENO, b"\n")
+fn print_line(rt: &(impl Files + Print), name: &[u8]) -> io::Result<()> {
+    let verdict = judge_file(rt, name);
+    rt.write_all(name)?;
+    print_verdict(rt, verdict)?;
+    rt.write_all(b"\n")
 }
 
 // Linux hands a program no longer argument.
 const LONGEST_NAME: usize = 131072;
 
 // The line of the file that an argument names; whether it could be written.
-fn try_file(argument: usize) -> bool {
+fn try_file(rt: &(impl Env + Files + Print + Eprint), argument: usize) -> bool {
     let mut name = [0u8; LONGEST_NAME];
-    let n = os::arg(argument, &mut name);
-    if !print_line(&name[..n]) {
-        os::fail(b"standard output");
+    let n = host::arg(rt, argument, &mut name);
+    if let Err(error) = print_line(rt, &name[..n]) {
+        host::fail(rt, "standard output", error);
         return false;
     }
     true
 }
 
-fn usage() {
-    io::write_all(STDERR_FILENO, b"usage: unsound FILE...\n");
+fn usage(rt: &impl Eprint) {
+    let _ = rt.eprintln("usage: unsound FILE...");
 }
 
-fn main() {
-    let count = os::arg_count();
+fn main(rt: HostRuntime) {
+    let count = host::arg_count(&rt);
     if count < 2 {
-        return usage();
+        return usage(&rt);
     }
     // The first argument is the program's own name.
     let mut i: usize = 1;
     while i < count {
-        if !try_file(i) {
+        if !try_file(&rt, i) {
             return;
         }
         i += 1;

@@ -1,20 +1,28 @@
 // Replays event files and compares what they print with stored lines, and the tasks that run after each call with those that the plain engine keeps. The
 // arguments name pairs: an event file, and its lines; ` ok` says that both are as they should be.
 #![tactic(auto)]
+
 use dispatcher::{Answer, Dispatcher};
 use files::Reading;
-use libc::STDOUT_FILENO;
 use lines::Line;
+use std::io::{Print, Read};
+use std::rt::{Env, Files};
+use std::{fs, str};
 
 // Whether as many stored bytes as there is room for are this text.
-fn same_next(stored: i32, text: &[u8], room: &mut [u8]) -> bool {
-    let n = io::read_full(stored, room);
-    check::same(&room[..n], text)
+fn same_next(stored: &mut impl Read, text: &[u8], room: &mut [u8]) -> bool {
+    match host::read_full(stored, room) {
+        Ok(n) => &room[..n] == text,
+        Err(_) => false,
+    }
 }
 
+// The bytes of a block.
+const BLOCK: usize = 65536;
+
 // Whether the stored lines go on with this text.
-fn goes_on(stored: i32, text: &[u8]) -> bool {
-    let mut next = io::large_buffer();
+fn goes_on(stored: &mut impl Read, text: &[u8]) -> bool {
+    let mut next = [0u8; BLOCK];
     let length = text.len();
     if next.len() < length {
         return false;
@@ -22,9 +30,9 @@ fn goes_on(stored: i32, text: &[u8]) -> bool {
     same_next(stored, text, &mut next[..length])
 }
 
-fn is_at_end(stored: i32) -> bool {
+fn is_at_end(stored: &mut impl Read) -> bool {
     let mut one = [0u8; 1];
-    libc::read(stored, &mut one) == 0
+    matches!(stored.read(&mut one), Ok(0))
 }
 
 // Where a day stands: the next call, and the dispatcher before it.
@@ -35,8 +43,8 @@ struct Place {
 }
 
 // Compares as many lines as a block holds. Where they differ the place stays.
-fn same_block(file: &[u8], next: usize, d: Dispatcher, stored: i32) -> Place {
-    let mut block = io::large_buffer();
+fn same_block(file: &[u8], next: usize, d: Dispatcher, stored: &mut impl Read) -> Place {
+    let mut block = [0u8; BLOCK];
     let r = days::replay(file, next, d, &mut block);
     let length = r.length;
     if !goes_on(stored, &block[..length]) {
@@ -52,7 +60,7 @@ fn same_block(file: &[u8], next: usize, d: Dispatcher, stored: i32) -> Place {
     }
 }
 
-fn same_day(file: &[u8], cores: u8, calls: usize, stored: i32) -> bool {
+fn same_day(file: &[u8], cores: u8, calls: usize, stored: &mut impl Read) -> bool {
     let fresh = Dispatcher::fresh(cores);
     let mut d = fresh.dispatcher;
     let mut next: usize = 0;
@@ -95,18 +103,18 @@ fn agrees(file: &[u8], cores: u8, calls: usize) -> bool {
     true
 }
 
-fn right_day(file: &[u8], cores: u8, calls: usize, stored: i32) -> bool {
+fn right_day(file: &[u8], cores: u8, calls: usize, stored: &mut impl Read) -> bool {
     same_day(file, cores, calls, stored) && agrees(file, cores, calls)
 }
 
-fn same_fault(answer: Answer, offset: usize, stored: i32) -> bool {
+fn same_fault(answer: Answer, offset: usize, stored: &mut impl Read) -> bool {
     let mut line = [0u8; Line::LONGEST_FAULT];
     let w = lines::write_fault(answer.number(), offset, &mut line);
     let length = w.length;
     goes_on(stored, &line[..length])
 }
 
-fn right_lines(file: &[u8], stored: i32) -> bool {
+fn right_lines(file: &[u8], stored: &mut impl Read) -> bool {
     match files::read(file) {
         Reading::Layout {
             cores,
@@ -117,46 +125,55 @@ fn right_lines(file: &[u8], stored: i32) -> bool {
     }
 }
 
-// Whether the event file prints the stored lines and no more, and engine and dispatcher agree; not so where either can't be opened.
-fn is_right(day: i32, stored: i32) -> bool {
-    if day < 0 {
+// Whether the event file prints the stored lines and no more, and engine and dispatcher agree; not so where either can't be opened or read.
+fn is_right<F: Read + Drop>(day: Option<F>, stored: Option<F>) -> bool {
+    let Some(mut day) = day else {
         return false;
-    }
-    if stored < 0 {
+    };
+    let Some(mut stored) = stored else {
         return false;
-    }
+    };
     let mut file = files::room();
-    let n = io::read_full(day, &mut file);
-    if !right_lines(&file[..n], stored) {
+    let Ok(n) = host::read_full(&mut day, &mut file) else {
+        return false;
+    };
+    if !right_lines(&file[..n], &mut stored) {
         return false;
     }
-    is_at_end(stored)
+    is_at_end(&mut stored)
 }
+
+// The file, if its name is text and it can be opened.
+fn open<R: Files>(files: &R, name: &[u8]) -> Option<R::File> {
+    let path = str::from_utf8(name).ok()?;
+    fs::open(files, path).ok()
+}
+
+// The system opens no file by a longer name.
+const LONGEST_NAME: usize = 4096;
 
 // One pair, by the places of its arguments.
-fn try_pair(day_at: usize, lines_at: usize) {
-    let mut day = io::buffer();
-    let n = os::arg(day_at, &mut day);
-    let mut lines = io::buffer();
-    let m = os::arg(lines_at, &mut lines);
-    let day_file = os::open_read(&day[..n]);
-    let lines_file = os::open_read(&lines[..m]);
-    io::write_all(STDOUT_FILENO, &day[..n]);
+fn try_pair(rt: &(impl Env + Files + Print), day_at: usize, lines_at: usize) {
+    let mut day = [0u8; LONGEST_NAME];
+    let n = host::arg(rt, day_at, &mut day);
+    let mut lines = [0u8; LONGEST_NAME];
+    let m = host::arg(rt, lines_at, &mut lines);
+    let day_file = open(rt, &day[..n]);
+    let lines_file = open(rt, &lines[..m]);
+    let _ = rt.write_all(&day[..n]);
     if is_right(day_file, lines_file) {
-        io::write_all(STDOUT_FILENO, b" ok\n");
+        let _ = rt.write_all(b" ok\n");
     } else {
-        io::write_all(STDOUT_FILENO, b" differs\n");
+        let _ = rt.write_all(b" differs\n");
     }
-    libc::close(day_file);
-    libc::close(lines_file);
 }
 
-fn main() {
+fn main(rt: HostRuntime) {
     // The first argument is the program's own name.
-    let pairs = os::arg_count() / 2;
+    let pairs = host::arg_count(&rt) / 2;
     let mut i: usize = 0;
     while i < pairs {
-        try_pair(2 * i + 1, 2 * i + 2);
+        try_pair(&rt, 2 * i + 1, 2 * i + 2);
         i += 1;
     }
 }
