@@ -27,7 +27,7 @@ pub fn read_full<R: Read>(input: &mut R, bytes: &mut [u8]) -> io::Result<usize>
     Ok(n)
 }
 
-// No argument has room in no bytes, so the answer tells only whether it is there.
+// With no bytes to put the argument in, the answer tells only whether it is there.
 fn has_arg(env: &impl Env, i: usize) -> bool {
     !matches!(env.arg(i, &mut []), Err(FillError::NotPresent))
 }
