@@ -44,8 +44,8 @@ pub loop-s-smaller : goal.loop-s-smaller
 loop-s-smaller c =
     let at = c.loop-s in
     let step = c.step-s in
-    let kept = more at.invariant _ step.result step.ensures c.if-written-eq0.false in
-    omega (arith, c.if-written-eq0.false, kept.fits, kept.size_is)
+    let longer = more at.invariant _ step.result step.ensures c.if-written-eq0.false in
+    omega (arith, c.if-written-eq0.false, longer.fits, longer.size_is)
 
 pub loop-s-preserved : goal.loop-s-preserved
 loop-s-preserved c =

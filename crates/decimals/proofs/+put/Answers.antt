@@ -16,7 +16,7 @@ put-last-requires t c = (omega arith, omega (arith, length_more _ c.if-n-lt10.fa
 -- what the digit more takes is left after the tenth
 last_room : (t : ℕ) (c : goal.After-digit-2 t) → c.put-last.result < length c.put-last.new.text
 last_room t c =
-    let grown = length_more _ c.if-n-lt10.false in
+    let grown = length_more c.args.n (omega (arith, c.if-n-lt10.false)) in
     omega (arith, puts_room c.put-last.ensures 1 (omega arith))
 
 pub bounds-text-last : goal.bounds-text-last
@@ -27,5 +27,5 @@ overflow_add-result-2 t c = omega (arith, last_room t c)
 
 pub returns : goal.returns
 returns t c =
-    let grown = length_more _ c.if-n-lt10.false in
+    let more = length_more _ c.if-n-lt10.false in
     rw (decimal_more _ c.if-n-lt10.false, c.digit-2.ensures) (puts_then c.put-last.ensures (puts_one _ _ _ (last_room t c)) (omega arith))
