@@ -11,7 +11,7 @@
  * to as many bytes or records as the count beside them says; for a count of 0 any non-null, aligned
  * pointer will do.
  *
- * Link with -lmakxirund (libmakxirund.a, x86-64-v2, System V ABI).
+ * Link with -lmakxirund (libmakxirund.a, x86-64, System V ABI).
  */
 #ifndef MAKXIRUND_H
 #define MAKXIRUND_H

@@ -1,5 +1,5 @@
 // Says what is unsound in dispatchers that were dumped from memory. Each argument names a file with the bytes of C's `struct makxirund_dispatcher`; its line
-// is `FILE NUMBER PLACE`, 0 and 0 where the dispatcher is sound, or `FILE is no dump` where the file can't be read or has more or fewer bytes.
+// is `FILE NUMBER PLACE`, 0 and 0 where the dispatcher is sound, or `FILE is no dump` where the file can't be read, has a name that is not UTF-8, or has more or fewer bytes.
 #![tactic(auto)]
 
 ghost use Rattle.std.specs.Prelude.{◌+◌, ◌*◌, ◌≤◌, ◌<◌, ◌≡◌, length};
