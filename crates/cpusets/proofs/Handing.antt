@@ -1,36 +1,37 @@
 -- The ends of writing a text: refused, or handed over.
 use Prim.Native.Nat.{ℕ}
-use mathlib.Core.Path.{◌≡◌, refl}
+use mathlib.Core.Path.{◌≡◌, refl, ap}
 use mathlib.Core.Bool.{Bool, true, false}
 use mathlib.Core.List.{List}
 use native.Mathlib.Omega.{arith}
 use lib.ListN.{length, take}
+use Rattle.std.specs.Prelude.{Ok, Err}
 use Rattle.masks.specs.Masks.{NamesMissing}
 use Rattle.texts.specs.HandOver.{HandsOver}
+use Rattle.cpusets.specs.Answers.{Written}
 use Rattle.cpusets.specs.Writing.{Equals, WritesText, Writes, Made}
-use Rattle.cpusets.specs.declared.Answer.TheVariants.{Done, AboveLimit, OutputShort}
-use Rattle.cpusets.specs.declared.Written.{Written}
+use Rattle.cpusets.specs.declared.Refusal.TheVariants.{AboveLimit, OutputShort}
 
 -- there was room, or there was not
-pub handed : {t before after : List ℕ} {size : ℕ} {r : Bool} → size ≡ length t → HandsOver t before after r → r ≡ true → WritesText (Equals t) before after (record { answer = Done; length = size })
+pub handed : {t before after : List ℕ} {size : ℕ} {r : Bool} → size ≡ length t → HandsOver t before after r → r ≡ true → WritesText (Equals t) before after (Ok size)
 handed {t} e h y = record {
   text = t;
   is = refl;
   short = λ l. absurd (omega (arith, h.room.yes y));
-  room = λ _. record { answer = refl; told = e; written = h.written y };
+  room = λ _. record { told = ap Ok e; written = h.written y };
 }
 
-pub not_handed : {t before after : List ℕ} {r : Bool} → HandsOver t before after r → r ≡ false → WritesText (Equals t) before after (record { answer = OutputShort; length = 0 })
+pub not_handed : {t before after : List ℕ} {r : Bool} → HandsOver t before after r → r ≡ false → WritesText (Equals t) before after (Err OutputShort)
 not_handed {t} h y = record {
   text = t;
   is = refl;
-  short = λ _. record { answer = refl; nothing = refl; kept = h.kept y };
+  short = λ _. record { answer = refl; kept = h.kept y };
   room = λ l. absurd (h.room.no y l);
 }
 
 -- the set names a core at or above the limit
-pub writes_above : {TextOf : List ℕ → Type 0} {n s : ℕ} {before : List ℕ} → NamesMissing n s → Writes TextOf n s before before (record { answer = AboveLimit; length = 0 })
-writes_above h = record { above = λ _. record { answer = refl; nothing = refl; kept = refl }; below = λ k. absurd (k h) }
+pub writes_above : {TextOf : List ℕ → Type 0} {n s : ℕ} {before : List ℕ} → NamesMissing n s → Writes TextOf n s before before (Err AboveLimit)
+writes_above h = record { above = λ _. record { answer = refl; kept = refl }; below = λ k. absurd (k h) }
 
 -- it names none, and the text that was made is handed over
 pub writes_below : {TextOf : List ℕ → Type 0} {n s size : ℕ} {bytes before after : List ℕ} {r : Written}

@@ -8,40 +8,37 @@ use native.Mathlib.Decide.{dec_lt}
 use native.Mathlib.Omega.{arith}
 use lib.Dec.{eqb}
 use lib.ListN.{length}
-use Rattle.laws.specs.Answering.{Refusal}
+use Rattle.std.specs.Prelude.{Ok, Err, IsErrAnd}
+use Rattle.laws.specs.Answering.{Refusal as Row}
 use Rattle.laws.specs.Decides.{Decides}
 use Rattle.laws.proofs.Deciding.{cases}
 use Rattle.masks.specs.Masks.{NamesMissing}
 use Rattle.masks.proofs.Bits.{names_test}
-use Rattle.cpusets.specs.Answers.{number_of}
+use Rattle.cpusets.specs.Answers.{number_of, Reading, Written}
 use Rattle.cpusets.specs.Faults.{FirstFault}
 use Rattle.cpusets.specs.Reading.{Reads}
 use Rattle.cpusets.specs.Writing.{Refuses, Stands, WritesText, Writes}
-use Rattle.cpusets.specs.declared.Answer.{Answer}
-use Rattle.cpusets.specs.declared.Answer.TheVariants.{Done, Unexpected, Backward, AboveLimit, OutputShort}
-use Rattle.cpusets.specs.declared.Reading.{Reading}
-use Rattle.cpusets.specs.declared.Reading.TheVariants.{Cores, Refused}
-use Rattle.cpusets.specs.declared.Written.{Written}
+use Rattle.cpusets.specs.declared.Refusal.{Refusal}
+use Rattle.cpusets.specs.declared.Refusal.TheVariants.{Unexpected, Backward, AboveLimit, OutputShort}
 
--- ---- a number belongs to one answer
+-- ---- a number belongs to one refusal
 
-answer_of : ℕ → Answer
-answer_of n = cond (eqb n 0) Done (cond (eqb n 17) Unexpected (cond (eqb n 18) Backward (cond (eqb n 19) AboveLimit OutputShort)))
+refusal_of : ℕ → Refusal
+refusal_of n = cond (eqb n 17) Unexpected (cond (eqb n 18) Backward (cond (eqb n 19) AboveLimit OutputShort))
 
-answer_back : (a : Answer) → answer_of (number_of a) ≡ a
-unfolding answer_of
-answer_back Done = refl
-answer_back Unexpected = refl
-answer_back Backward = refl
-answer_back AboveLimit = refl
-answer_back OutputShort = refl
+refusal_back : (r : Refusal) → refusal_of (number_of r) ≡ r
+unfolding refusal_of
+refusal_back Unexpected = refl
+refusal_back Backward = refl
+refusal_back AboveLimit = refl
+refusal_back OutputShort = refl
 
-pub number_same : {a b : Answer} → number_of a ≡ number_of b → a ≡ b
-number_same {a} {b} e = sym (answer_back a) ∙ ap answer_of e ∙ answer_back b
+pub number_same : {r q : Refusal} → number_of r ≡ number_of q → r ≡ q
+number_same {r} {q} e = sym (refusal_back r) ∙ ap refusal_of e ∙ refusal_back q
 
 -- ---- reading
 
-pub first_same : {faults : ℕ → List Refusal} {m n o p : ℕ} → FirstFault faults m o → FirstFault faults n p → (m ≡ n) × (o ≡ p)
+pub first_same : {faults : ℕ → List Row} {m n o p : ℕ} → FirstFault faults m o → FirstFault faults n p → (m ≡ n) × (o ≡ p)
 first_same {m = m} {n} {o} {p} x y = go (x.first n p y.there) (y.first m o x.there)
   where
     go : (o < p) ⊎ ((o ≡ p) × (m ≡ n)) → (p < o) ⊎ ((p ≡ o) × (n ≡ m)) → (m ≡ n) × (o ≡ p)
@@ -50,24 +47,27 @@ first_same {m = m} {n} {o} {p} x y = go (x.first n p y.there) (y.first m o x.the
     go (inl h) (inr k) = absurd (omega (arith, k.0))
 
 -- where a text means one set
-pub reads_same : (faults : ℕ → List Refusal) (Means : ℕ → Type 0) → ((s q : ℕ) → Means s → Means q → s ≡ q) → (r q : Reading) → Reads faults Means r → Reads faults Means q → r ≡ q
-reads_same faults Means one (Cores s) (Cores q) x y = ap Cores (one s q x.1 y.1)
-reads_same faults Means one (Cores s) (Refused a o) x y = absurd (x.0 (number_of a) o y.there)
-reads_same faults Means one (Refused a o) (Cores s) x y = absurd (y.0 (number_of a) o x.there)
-reads_same faults Means one (Refused a o) (Refused b p) x y =
+pub reads_same : (faults : ℕ → List Row) (Means : ℕ → Type 0) → ((s q : ℕ) → Means s → Means q → s ≡ q) → (r q : Reading) → Reads faults Means r → Reads faults Means q → r ≡ q
+reads_same faults Means one (Ok s) (Ok q) x y = ap Ok (one s q x.1 y.1)
+reads_same faults Means one (Ok s) (Err e) x y = absurd (x.0 (number_of e.refusal) e.offset y.there)
+reads_same faults Means one (Err e) (Ok s) x y = absurd (y.0 (number_of e.refusal) e.offset x.there)
+reads_same faults Means one (Err e) (Err f) x y =
     let same = first_same x y in
-    cc (number_same {a = a} {b = b} same.0, same.1)
+    let refusal = number_same {r = e.refusal} {q = f.refusal} same.0 in
+    λ i. Err (record { refusal = refusal i; offset = same.1 i })
 
 -- ---- writing
 
-written_same : {r q : Written} → number_of r.answer ≡ number_of q.answer → r.length ≡ q.length → r ≡ q
-written_same {r} {q} a b = let e = number_same {a = r.answer} {b = q.answer} a in λ i. record { answer = e i; length = b i }
+refused_same : (n : ℕ) (r q : Written) → IsErrAnd r (λ e. number_of e ≡ n) → IsErrAnd q (λ e. number_of e ≡ n) → r ≡ q
+refused_same n (Ok k) q a b = absurd a
+refused_same n (Err e) (Ok k) a b = absurd b
+refused_same n (Err e) (Err f) a b = ap Err (number_same (a ∙ sym b))
 
 refuses_same : {n : ℕ} {before after after' : List ℕ} {r q : Written} → Refuses n before after r → Refuses n before after' q → (r ≡ q) × (after ≡ after')
-refuses_same a b = (written_same (a.answer ∙ sym b.answer) (a.nothing ∙ sym b.nothing), a.kept ∙ sym b.kept)
+refuses_same {n} {r = r} {q} a b = (refused_same n r q a.answer b.answer, a.kept ∙ sym b.kept)
 
 stands_same : {text before after after' : List ℕ} {r q : Written} → Stands text before after r → Stands text before after' q → (r ≡ q) × (after ≡ after')
-stands_same a b = (written_same (a.answer ∙ sym b.answer) (a.told ∙ sym b.told), a.written ∙ sym b.written)
+stands_same a b = (a.told ∙ sym b.told, a.written ∙ sym b.written)
 
 -- where there is one text
 pub writes_text_same : {TextOf : List ℕ → Type 0} {before after after' : List ℕ} {r q : Written} → ((t u : List ℕ) → TextOf t → TextOf u → t ≡ u)

@@ -1,18 +1,15 @@
--- Request 2: what a writer answers, and which bytes the lent buffer has afterwards. 19 comes before 20; a refused write returns length 0 and changes no byte.
-use Rattle.std.specs.Prelude.{ℕ, ◌≤◌, ◌<◌, ◌≡◌, List, ◌++◌, length, take, drop}
+-- Request 2: what a writer answers, and which bytes the lent buffer has afterwards. 19 comes before 20; a refused write has no length and changes no byte.
+use Rattle.std.specs.Prelude.{ℕ, ◌≤◌, ◌<◌, ◌≡◌, Ok, IsErrAnd, List, ◌++◌, length, take, drop}
 use Rattle.masks.specs.Masks.{NamesMissing}
-use Rattle.cpusets.specs.Answers.{number_of}
-use Rattle.cpusets.specs.declared.Written.{Written}
+use Rattle.cpusets.specs.Answers.{number_of, Written}
 
 pub record Refuses (n : ℕ) (before after : List ℕ) (r : Written) : Type 0 where
-  pub answer : number_of r.answer ≡ n
-  pub nothing : r.length ≡ 0
+  pub answer : IsErrAnd r (λ refusal. number_of refusal ≡ n)
   pub kept : after ≡ before
 
 -- the text stands at the buffer's start, and no other byte changes
 pub record Stands (text before after : List ℕ) (r : Written) : Type 0 where
-  pub answer : number_of r.answer ≡ 0
-  pub told : r.length ≡ length text
+  pub told : r ≡ Ok (length text)
   pub written : after ≡ text ++ drop (length text) before
 
 abbrev pub Equals : List ℕ → List ℕ → Type 0

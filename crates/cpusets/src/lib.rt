@@ -10,38 +10,36 @@ ghost use Rattle.cpusets.specs.Limit.{cores_of};
 ghost use Rattle.cpusets.specs.Reading.{plain_of};
 ghost use Rattle.cpusets.specs.Writing.{Equals, WritesText};
 
-// What a reader or a writer answers. `number` gives the number of request 2.
-#[derive(Clone, Copy)]
-pub enum Answer {
-    Done,
+// Why a text or a set is refused. `number` gives the number of request 2.
+#[derive(Clone, Copy, Debug, PartialEq, Eq)]
+pub enum Refusal {
     Unexpected,
     Backward,
     AboveLimit,
     OutputShort,
 }
 
-impl Answer {
+impl Refusal {
     pub fn number(self) -> u8
         ensures { result ≡ number_of self }
     {
         match self {
-            Answer::Done => 0,
-            Answer::Unexpected => 17,
-            Answer::Backward => 18,
-            Answer::AboveLimit => 19,
-            Answer::OutputShort => 20,
+            Refusal::Unexpected => 17,
+            Refusal::Backward => 18,
+            Refusal::AboveLimit => 19,
+            Refusal::OutputShort => 20,
         }
     }
 }
 
-// The set that a text means, or why it means none, and where.
-#[derive(Clone, Copy)]
-pub enum Reading {
-    Cores { set: u64 },
-    Refused { answer: Answer, offset: usize },
+// Why a text means no set, and where.
+#[derive(Clone, Copy, Debug, PartialEq, Eq)]
+pub struct Fault {
+    pub refusal: Refusal,
+    pub offset: usize,
 }
 
-// A reading for C: the number and the offset are 0 where a set was read, and the set is empty where none was.
+// What a reader answers, for C: the number and the offset are 0 where a set was read, and the set is empty where none was.
 #[repr(C)]
 #[derive(Clone, Copy)]
 pub struct PlainReading {
@@ -50,29 +48,23 @@ pub struct PlainReading {
     pub set: u64,
 }
 
-impl Reading {
-    pub fn plain(self) -> PlainReading
-        ensures { result ≡ plain_of self }
-    {
-        match self {
-            Reading::Cores { set } => PlainReading {
+impl From<Result<u64, Fault>> for PlainReading {
+    ghost from_gives = { λ reading plain. plain ≡ plain_of reading };
+
+    fn from(reading: Result<u64, Fault>) -> PlainReading {
+        match reading {
+            Ok(set) => PlainReading {
                 number: 0,
                 offset: 0,
                 set,
             },
-            Reading::Refused { answer, offset } => PlainReading {
-                number: answer.number(),
-                offset,
+            Err(fault) => PlainReading {
+                number: fault.refusal.number(),
+                offset: fault.offset,
                 set: EMPTY,
             },
         }
     }
-}
-
-#[derive(Clone, Copy)]
-pub struct Written {
-    pub answer: Answer,
-    pub length: usize,
 }
 
 // The set without a core.
@@ -85,7 +77,7 @@ pub const WIDTH: u8 = 64;
 pub fn cores(limit: u8) -> u8
     ensures { result ≡ cores_of limit }
 {
-    if WIDTH < limit { WIDTH } else { limit }
+    limit.min(WIDTH)
 }
 
 // Whether a set names a core at or above the count.
@@ -95,19 +87,14 @@ pub fn names_above(set: u64, n: u8) -> bool
     if n < WIDTH { (set >> n) != 0 } else { false }
 }
 
-// Hands a text over to the lent buffer, or refuses where that is too short.
-pub fn hand_over(text: &[u8], size: usize, buffer: &mut [u8]) -> Written
+// Hands a text over to the lent buffer and gives its length, or refuses where the buffer is too short.
+pub fn hand_over(text: &[u8], size: usize, buffer: &mut [u8]) -> Result<usize, Refusal>
     requires { size ≤ length text.now }
     ensures { WritesText (Equals (take size text.now)) buffer.old buffer.new result }
 {
     if texts::hand_over(text, size, buffer) {
-        return Written {
-            answer: Answer::Done,
-            length: size,
-        };
-    }
-    Written {
-        answer: Answer::OutputShort,
-        length: 0,
+        Ok(size)
+    } else {
+        Err(Refusal::OutputShort)
     }
 }
