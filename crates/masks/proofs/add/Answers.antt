@@ -2,8 +2,8 @@
 use Rattle.masks.proofs.Adding.{added, none_added}
 use Rattle.masks.proofs.add.Goals as goal
 
-pub returns-then-core-ge-WIDTH : goal.returns-then-core-ge-WIDTH
-returns-then-core-ge-WIDTH c = none_added c.args.mask c.args.core c.if-core-ge-WIDTH.true
+pub returns-then-core-lt-WIDTH : goal.returns-then-core-lt-WIDTH
+returns-then-core-lt-WIDTH c = added c.args.mask c.args.core c.if-core-lt-WIDTH.true
 
-pub returns-else-core-ge-WIDTH : goal.returns-else-core-ge-WIDTH
-returns-else-core-ge-WIDTH c = added c.args.mask c.args.core c.if-core-ge-WIDTH.false
+pub returns-else-core-lt-WIDTH : goal.returns-else-core-lt-WIDTH
+returns-else-core-lt-WIDTH c = none_added c.args.mask c.args.core c.if-core-lt-WIDTH.false
