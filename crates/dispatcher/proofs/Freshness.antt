@@ -3,6 +3,7 @@ use Prim.Native.Nat.{ℕ}
 use mathlib.Core.Path.{◌≡◌, refl}
 use mathlib.Core.Logic.{◌⊎◌, inl, inr}
 use mathlib.Core.Bool.{Bool, true, false}
+use Rattle.std.specs.Prelude.{Ok, Err}
 use mathlib.Core.List.{[], ◌∷◌}
 use native.Mathlib.Decide.{ℕ_discrete}
 use native.Mathlib.Omega.{arith}
@@ -16,25 +17,25 @@ use Rattle.dispatcher.specs.Sound.{Sound}
 use Rattle.dispatcher.specs.Answers.{number_of}
 use Rattle.dispatcher.specs.Reports.{still_of}
 use Rattle.dispatcher.specs.Fresh.{empty_of, fresh_refusals, Freshly}
-use Rattle.dispatcher.specs.declared.Answer.TheVariants.{Done, CoreCount}
+use Rattle.dispatcher.specs.declared.Refusal.TheVariants.{CoreCount}
 use Rattle.dispatcher.specs.declared.Outcome.{Outcome}
 use Rattle.dispatcher.proofs.Judging.{test, first_of, judged}
 use Rattle.dispatcher.proofs.Testing.{count_test, count_decides}
 
 abbrev pub fresh_of : Bool → ℕ → Outcome
-fresh_of true n = record { report = still_of Done; dispatcher = empty_of n }
-fresh_of false n = record { report = still_of CoreCount; dispatcher = empty_of 1 }
+fresh_of true n = record { report = still_of (Ok tt); dispatcher = empty_of n }
+fresh_of false n = record { report = still_of (Err CoreCount); dispatcher = empty_of 1 }
 
 pub freshly : {b : Bool} {n : ℕ} → Decides (LegalCount n) b → Freshly n (fresh_of b n)
 unfolding first_of
 freshly {b = true} {n} l = record {
-  answer = judged (fresh_refusals n) (test false CoreCount ∷ []) (decides_not l, refl, omega arith, tt);
+  answer = judged (fresh_refusals n) (test false (Err CoreCount) ∷ []) (decides_not l, refl, omega arith, tt);
   still = refl;
   done = λ _. refl;
   refused = λ z. absurd (z refl);
 }
 freshly {b = false} {n} l = record {
-  answer = judged (fresh_refusals n) (test true CoreCount ∷ []) (decides_not l, refl, omega arith, tt);
+  answer = judged (fresh_refusals n) (test true (Err CoreCount) ∷ []) (decides_not l, refl, omega arith, tt);
   still = refl;
   done = λ z. let y : ◌≡◌ {A = ℕ} 2 0 = z in absurd (omega arith);
   refused = λ _. refl;

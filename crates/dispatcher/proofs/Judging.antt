@@ -3,6 +3,7 @@ use Prim.Native.Nat.{ℕ, zero, suc, ◌≤◌, ◌<◌}
 use mathlib.Core.Path.{◌≡◌, refl}
 use mathlib.Core.Logic.{◌⊎◌, inl, inr}
 use mathlib.Core.Bool.{Bool, true, false, cond}
+use Rattle.std.specs.Prelude.{Ok}
 use mathlib.Core.List.{List, [], ◌∷◌}
 use native.Mathlib.Omega.{arith}
 use lib.ListN.{length}
@@ -10,9 +11,7 @@ use Rattle.laws.specs.Decides.{Decides}
 use Rattle.laws.specs.Answering.{Refusal, Applies, checked_first, turn_of, Answers}
 use Rattle.laws.proofs.Deciding.{cases}
 use Rattle.laws.proofs.Answering.{AllLater}
-use Rattle.dispatcher.specs.Answers.{number_of}
-use Rattle.dispatcher.specs.declared.Answer.{Answer}
-use Rattle.dispatcher.specs.declared.Answer.TheVariants.{Done}
+use Rattle.dispatcher.specs.Answers.{Answer, number_of}
 
 pub record Test : Type 0 where
   pub found : Bool
@@ -22,7 +21,7 @@ abbrev pub test : Bool → Answer → Test
 test b a = record { found = b; gives = a }
 
 unfoldable pub first_of : List Test → Answer
-first_of [] = Done
+first_of [] = Ok tt
 first_of (t ∷ ts) = let rest = first_of ts in cond t.found t.gives rest
 
 -- the tests are those of the rows, in the rows' order, and the rows' turns come one after the other, after b

@@ -8,12 +8,11 @@ use native.Mathlib.Omega.{arith}
 use Rattle.laws.specs.Answering.{Refusal, ◌when◌, Answers}
 use Rattle.laws.proofs.Answering.{none_applies}
 use Rattle.dispatcher.specs.Limits.{slot_limit}
-use Rattle.dispatcher.specs.Answers.{number_of}
+use Rattle.dispatcher.specs.Answers.{Answer, number_of}
 use Rattle.dispatcher.specs.Refusals.{IsAbove}
 use Rattle.dispatcher.specs.Unsound.{unsound_refusals}
 use Rattle.dispatcher.specs.Reports.{still_of}
 use Rattle.dispatcher.specs.Promise.{Answered, Promised}
-use Rattle.dispatcher.specs.declared.Answer.{Answer}
 use Rattle.dispatcher.specs.declared.Dispatcher.{Dispatcher}
 use Rattle.dispatcher.specs.declared.Outcome.{Outcome}
 use Rattle.dispatcher.proofs.Unsound.{later_points, done_own}

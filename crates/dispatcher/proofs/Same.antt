@@ -3,6 +3,7 @@ use Prim.Native.Nat.{ℕ}
 use mathlib.Core.Path.{◌≡◌, refl, sym, ap, ◌∙◌}
 use mathlib.Core.Logic.{◌≢◌}
 use mathlib.Core.Bool.{cond}
+use Rattle.std.specs.Prelude.{Ok, Err}
 use mathlib.Core.List.{List}
 use native.Mathlib.Decide.{ℕ_discrete}
 use native.Mathlib.Omega.{arith}
@@ -10,48 +11,51 @@ use lib.Dec.{eqb}
 use Rattle.laws.specs.Lists.{All}
 use Rattle.laws.specs.Answering.{Refusal, Answers}
 use Rattle.laws.proofs.Answering.{AllLater, answers_same}
-use Rattle.dispatcher.specs.Answers.{number_of, place_of, unused_numbers}
+use Rattle.dispatcher.specs.Answers.{Answer, number_of, place_of, unused_numbers}
 use Rattle.dispatcher.specs.Reports.{still_of}
 use Rattle.dispatcher.specs.Promise.{Answered, Promised}
 use Rattle.dispatcher.specs.Fresh.{fresh_refusals, Freshly}
-use Rattle.dispatcher.specs.declared.Answer.{Answer}
-use Rattle.dispatcher.specs.declared.Answer.TheVariants.{Done, UnsoundCount, UnsoundSlot, UnsoundPlace, UnsoundMissingCore, UnsoundSeat, CoreCount, SlotAbove, SlotInUse, SlotEmpty, PriorityZero, MaskEmpty, MissingCore, AlreadyReady, NotReady, FileShort, BytesAfter, BadKind, LineLong, EventCount}
+use Rattle.dispatcher.specs.declared.Refusal.{Refusal as Reason}
+use Rattle.dispatcher.specs.declared.Refusal.TheVariants.{UnsoundCount, UnsoundSlot, UnsoundPlace, UnsoundMissingCore, UnsoundSeat, CoreCount, SlotAbove, SlotInUse, SlotEmpty, PriorityZero, MaskEmpty, MissingCore, AlreadyReady, NotReady, FileShort, BytesAfter, BadKind, LineLong, EventCount}
 use Rattle.dispatcher.specs.declared.Dispatcher.{Dispatcher}
 use Rattle.dispatcher.specs.declared.Outcome.{Outcome}
 use Rattle.dispatcher.proofs.Unsound.{IsLater, points_same, later_place, later_answer}
 
 -- ---- a number belongs to one answer, but for the place
 
-answer_of : ℕ → ℕ → Answer
-answer_of n p =
-    cond (eqb n 0) Done (cond (eqb n 21) (UnsoundCount p) (cond (eqb n 22) (UnsoundSlot p) (cond (eqb n 23) (UnsoundPlace p)
+refusal_of : ℕ → ℕ → Reason
+refusal_of n p =
+    cond (eqb n 21) (UnsoundCount p) (cond (eqb n 22) (UnsoundSlot p) (cond (eqb n 23) (UnsoundPlace p)
     (cond (eqb n 24) (UnsoundMissingCore p) (cond (eqb n 25) (UnsoundSeat p) (cond (eqb n 2) CoreCount (cond (eqb n 3) SlotAbove
     (cond (eqb n 4) SlotInUse (cond (eqb n 5) SlotEmpty (cond (eqb n 6) PriorityZero (cond (eqb n 7) MaskEmpty
     (cond (eqb n 8) MissingCore (cond (eqb n 9) AlreadyReady (cond (eqb n 10) NotReady (cond (eqb n 12) FileShort
-    (cond (eqb n 13) BytesAfter (cond (eqb n 14) BadKind (cond (eqb n 15) LineLong EventCount))))))))))))))))))
+    (cond (eqb n 13) BytesAfter (cond (eqb n 14) BadKind (cond (eqb n 15) LineLong EventCount)))))))))))))))))
+
+answer_of : ℕ → ℕ → Answer
+answer_of n p = cond (eqb n 0) (Ok tt) (Err (refusal_of n p))
 
 answer_back : (a : Answer) → answer_of (number_of a) (place_of a) ≡ a
-unfolding answer_of
-answer_back Done = refl
-answer_back (UnsoundCount p) = refl
-answer_back (UnsoundSlot p) = refl
-answer_back (UnsoundPlace p) = refl
-answer_back (UnsoundMissingCore p) = refl
-answer_back (UnsoundSeat p) = refl
-answer_back CoreCount = refl
-answer_back SlotAbove = refl
-answer_back SlotInUse = refl
-answer_back SlotEmpty = refl
-answer_back PriorityZero = refl
-answer_back MaskEmpty = refl
-answer_back MissingCore = refl
-answer_back AlreadyReady = refl
-answer_back NotReady = refl
-answer_back FileShort = refl
-answer_back BytesAfter = refl
-answer_back BadKind = refl
-answer_back LineLong = refl
-answer_back EventCount = refl
+unfolding answer_of refusal_of
+answer_back (Ok done) = refl
+answer_back (Err (UnsoundCount p)) = refl
+answer_back (Err (UnsoundSlot p)) = refl
+answer_back (Err (UnsoundPlace p)) = refl
+answer_back (Err (UnsoundMissingCore p)) = refl
+answer_back (Err (UnsoundSeat p)) = refl
+answer_back (Err CoreCount) = refl
+answer_back (Err SlotAbove) = refl
+answer_back (Err SlotInUse) = refl
+answer_back (Err SlotEmpty) = refl
+answer_back (Err PriorityZero) = refl
+answer_back (Err MaskEmpty) = refl
+answer_back (Err MissingCore) = refl
+answer_back (Err AlreadyReady) = refl
+answer_back (Err NotReady) = refl
+answer_back (Err FileShort) = refl
+answer_back (Err BytesAfter) = refl
+answer_back (Err BadKind) = refl
+answer_back (Err LineLong) = refl
+answer_back (Err EventCount) = refl
 
 pub answer_is : {a b : Answer} → number_of a ≡ number_of b → place_of a ≡ place_of b → a ≡ b
 answer_is {a} {b} e p = sym (answer_back a) ∙ rw (e, p) (answer_back b)
@@ -60,15 +64,15 @@ answer_is {a} {b} e p = sym (answer_back a) ∙ rw (e, p) (answer_back b)
 pub number_same : {a b : Answer} → IsLater (number_of a) → number_of a ≡ number_of b → a ≡ b
 number_same {a} {b} l e = answer_is e (later_place a l ∙ sym (later_place b (rw (← e) l)))
 
-pub done_is : {a : Answer} → number_of a ≡ 0 → a ≡ Done
-done_is {a} z = sym (number_same {a = Done} {b = a} (omega arith) (sym z))
+pub done_is : {a : Answer} → number_of a ≡ 0 → a ≡ Ok tt
+done_is {a} z = sym (number_same {a = Ok tt} {b = a} (omega arith) (sym z))
 
 -- an unused number belongs to none
 pub unused_never : (a : Answer) → All (λ n. number_of a ≢ n) unused_numbers
-unfolding answer_of
+unfolding answer_of refusal_of
 unused_never a = (off _ (omega arith) (λ p. refl), (off _ (omega arith) (λ p. refl), tt))
   where
-    off : (n : ℕ) → n ≢ 16 → ((p : ℕ) → answer_of n p ≡ EventCount) → number_of a ≢ n
+    off : (n : ℕ) → n ≢ 16 → ((p : ℕ) → answer_of n p ≡ Err EventCount) → number_of a ≢ n
     off n other out e = let k = ap number_of (sym (answer_back a) ∙ ap (λ m. answer_of m (place_of a)) e ∙ out (place_of a)) in other (sym e ∙ k)
 
 -- ---- a list of refusals allows one answer

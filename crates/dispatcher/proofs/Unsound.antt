@@ -3,6 +3,7 @@ use Prim.Native.Nat.{ℕ, ◌≤◌, ◌<◌}
 use mathlib.Core.Path.{◌≡◌, refl, sym, ◌∙◌}
 use mathlib.Core.Logic.{◌≢◌, inl, inr}
 use mathlib.Core.Bool.{cond}
+use Rattle.std.specs.Prelude.{Ok, Err}
 use mathlib.Core.List.{List, [], ◌∷◌, ◌++◌}
 use native.Mathlib.Decide.{ℕ_discrete}
 use native.Mathlib.Omega.{arith}
@@ -15,11 +16,10 @@ use Rattle.laws.proofs.Lists.{in_or_not}
 use Rattle.laws.proofs.Lowering.{lowest_same}
 use Rattle.laws.proofs.Answering.{first_turn, turn_first, AllLater, from_applies, none_applies, applies_left, applies_split, answers_first, answers_then, answers_rest}
 use Rattle.dispatcher.specs.Sound.{Sound}
-use Rattle.dispatcher.specs.Answers.{number_of, place_of}
+use Rattle.dispatcher.specs.Answers.{Answer, number_of, place_of}
 use Rattle.dispatcher.specs.Unsound.{Condition, conditions, unsound_refusals, PlaceWith, Points}
 use Rattle.dispatcher.specs.Promise.{Answered}
-use Rattle.dispatcher.specs.declared.Answer.{Answer}
-use Rattle.dispatcher.specs.declared.Answer.TheVariants.{Done, UnsoundCount, UnsoundSlot, UnsoundPlace, UnsoundMissingCore, UnsoundSeat, CoreCount, SlotAbove, SlotInUse, SlotEmpty, PriorityZero, MaskEmpty, MissingCore, AlreadyReady, NotReady, FileShort, BytesAfter, BadKind, LineLong, EventCount}
+use Rattle.dispatcher.specs.declared.Refusal.TheVariants.{UnsoundCount, UnsoundSlot, UnsoundPlace, UnsoundMissingCore, UnsoundSeat}
 use Rattle.dispatcher.specs.declared.Dispatcher.{Dispatcher}
 use Rattle.dispatcher.proofs.Stable.{count_stable, slots_stable, order_stable, missing_stable, seats_stable}
 use Rattle.dispatcher.proofs.Judging.{Test, first_of, JudgedBy, judged, judged_later}
@@ -52,26 +52,13 @@ pub not_first : (n : ℕ) → IsLater n → In n checked_first → ⊥
 not_first n l i = let k = first_turn checked_first n i in omega arith
 
 pub later_place : (a : Answer) → IsLater (number_of a) → place_of a ≡ 0
-later_place (UnsoundCount p) l = absurd (omega arith)
-later_place (UnsoundSlot p) l = absurd (omega arith)
-later_place (UnsoundPlace p) l = absurd (omega arith)
-later_place (UnsoundMissingCore p) l = absurd (omega arith)
-later_place (UnsoundSeat p) l = absurd (omega arith)
-later_place Done l = refl
-later_place CoreCount l = refl
-later_place SlotAbove l = refl
-later_place SlotInUse l = refl
-later_place SlotEmpty l = refl
-later_place PriorityZero l = refl
-later_place MaskEmpty l = refl
-later_place MissingCore l = refl
-later_place AlreadyReady l = refl
-later_place NotReady l = refl
-later_place FileShort l = refl
-later_place BytesAfter l = refl
-later_place BadKind l = refl
-later_place LineLong l = refl
-later_place EventCount l = refl
+later_place (Ok done) l = refl
+later_place (Err (UnsoundCount p)) l = absurd (omega arith)
+later_place (Err (UnsoundSlot p)) l = absurd (omega arith)
+later_place (Err (UnsoundPlace p)) l = absurd (omega arith)
+later_place (Err (UnsoundMissingCore p)) l = absurd (omega arith)
+later_place (Err (UnsoundSeat p)) l = absurd (omega arith)
+later_place (Err r) l = refl
 
 -- n is the number of no condition
 abbrev IsNone : List Condition → ℕ → Type 0
@@ -161,8 +148,8 @@ unsound_told d {rs} {n} h bad = elim (in_or_not n checked_first) [ inl i ↦ i |
         turn_first checked_first n (omega (arith, k.1, l))
 
 -- an answer of 0
-pub done_answered : (d : Dispatcher) {rs : List Refusal} → Answers rs 0 → Answered rs d Done
-done_answered d h = record { answer = h; place = later_points d Done (omega arith) }
+pub done_answered : (d : Dispatcher) {rs : List Refusal} → Answers rs 0 → Answered rs d (Ok tt)
+done_answered d h = record { answer = h; place = later_points d (Ok tt) (omega arith) }
 
 -- ---- rows and then more rows
 
@@ -202,5 +189,5 @@ checked_then_lem {d} a rs ts h j = go (ℕ_discrete (number_of a) 0)
     go (yes z) = rw (eq-eqb (number_of a) 0 z) (sound_then rs (judged_later rs ts j) (done_sound d {rs = []} h.answer z) (judged rs ts j))
     go (no z) = rw (ne_eqb (number_of a) 0 z) (unsound_first rs (judged_later rs ts j) h z)
 
-pub sound_answered : {d : Dispatcher} → Sound d → Answered (unsound_refusals d) d Done
+pub sound_answered : {d : Dispatcher} → Sound d → Answered (unsound_refusals d) d (Ok tt)
 sound_answered {d} S = done_answered d (sound_answers d S)

@@ -1,52 +1,50 @@
 -- Document 01, "Refusal numbers", and document 02, request 3: the number of each answer, and the place that it carries.
-use Rattle.std.specs.Prelude.{ℕ, List, [], ◌∷◌}
-use Rattle.dispatcher.specs.declared.Answer.{Answer}
-use Rattle.dispatcher.specs.declared.Answer.TheVariants.{Done, UnsoundCount, UnsoundSlot, UnsoundPlace, UnsoundMissingCore, UnsoundSeat, CoreCount, SlotAbove, SlotInUse, SlotEmpty, PriorityZero, MaskEmpty, MissingCore, AlreadyReady, NotReady, FileShort, BytesAfter, BadKind, LineLong, EventCount}
+use Rattle.std.specs.Prelude.{ℕ, List, [], ◌∷◌, Result, Ok, Err, ⊤}
+use Rattle.dispatcher.specs.declared.Refusal.{Refusal}
+use Rattle.dispatcher.specs.declared.Refusal.TheVariants.{UnsoundCount, UnsoundSlot, UnsoundPlace, UnsoundMissingCore, UnsoundSeat, CoreCount, SlotAbove, SlotInUse, SlotEmpty, PriorityZero, MaskEmpty, MissingCore, AlreadyReady, NotReady, FileShort, BytesAfter, BadKind, LineLong, EventCount}
 
+-- done, or why not
+abbrev pub Answer : Type 0
+Answer = Result ⊤ Refusal
+
+abbrev pub refusal_number : Refusal → ℕ
+refusal_number (UnsoundCount p) = 21
+refusal_number (UnsoundSlot p) = 22
+refusal_number (UnsoundPlace p) = 23
+refusal_number (UnsoundMissingCore p) = 24
+refusal_number (UnsoundSeat p) = 25
+refusal_number CoreCount = 2
+refusal_number SlotAbove = 3
+refusal_number SlotInUse = 4
+refusal_number SlotEmpty = 5
+refusal_number PriorityZero = 6
+refusal_number MaskEmpty = 7
+refusal_number MissingCore = 8
+refusal_number AlreadyReady = 9
+refusal_number NotReady = 10
+refusal_number FileShort = 12
+refusal_number BytesAfter = 13
+refusal_number BadKind = 14
+refusal_number LineLong = 15
+refusal_number EventCount = 16
+
+-- 0 is no refusal's
 abbrev pub number_of : Answer → ℕ
-number_of Done = 0
-number_of (UnsoundCount p) = 21
-number_of (UnsoundSlot p) = 22
-number_of (UnsoundPlace p) = 23
-number_of (UnsoundMissingCore p) = 24
-number_of (UnsoundSeat p) = 25
-number_of CoreCount = 2
-number_of SlotAbove = 3
-number_of SlotInUse = 4
-number_of SlotEmpty = 5
-number_of PriorityZero = 6
-number_of MaskEmpty = 7
-number_of MissingCore = 8
-number_of AlreadyReady = 9
-number_of NotReady = 10
-number_of FileShort = 12
-number_of BytesAfter = 13
-number_of BadKind = 14
-number_of LineLong = 15
-number_of EventCount = 16
+number_of (Ok done) = 0
+number_of (Err r) = refusal_number r
 
--- what an answer says of an unsound dispatcher: the count found, or the lowest slot, place or core; 0 where it says nothing of one
+-- what a refusal says of an unsound dispatcher: the count found, or the lowest slot, place or core; 0 where it says nothing of one
+abbrev pub refusal_place : Refusal → ℕ
+refusal_place (UnsoundCount p) = p
+refusal_place (UnsoundSlot p) = p
+refusal_place (UnsoundPlace p) = p
+refusal_place (UnsoundMissingCore p) = p
+refusal_place (UnsoundSeat p) = p
+refusal_place r = 0
+
 abbrev pub place_of : Answer → ℕ
-place_of (UnsoundCount p) = p
-place_of (UnsoundSlot p) = p
-place_of (UnsoundPlace p) = p
-place_of (UnsoundMissingCore p) = p
-place_of (UnsoundSeat p) = p
-place_of Done = 0
-place_of CoreCount = 0
-place_of SlotAbove = 0
-place_of SlotInUse = 0
-place_of SlotEmpty = 0
-place_of PriorityZero = 0
-place_of MaskEmpty = 0
-place_of MissingCore = 0
-place_of AlreadyReady = 0
-place_of NotReady = 0
-place_of FileShort = 0
-place_of BytesAfter = 0
-place_of BadKind = 0
-place_of LineLong = 0
-place_of EventCount = 0
+place_of (Ok done) = 0
+place_of (Err r) = refusal_place r
 
 -- numbers that are no answer's any more and stay unused: 1, for a dispatcher that is not sound, and 11, for delete of a task that was still ready
 abbrev pub unused_numbers : List ℕ

@@ -2,10 +2,9 @@
 -- unsound; a refused call leaves the dispatcher unchanged and reports zero moves and none, none; an accepted one does what Done says.
 use Rattle.std.specs.Prelude.{◌≡◌, ◌≢◌, List}
 use Rattle.laws.specs.Answering.{Refusal, Answers}
-use Rattle.dispatcher.specs.Answers.{number_of, place_of}
+use Rattle.dispatcher.specs.Answers.{Answer, number_of, place_of}
 use Rattle.dispatcher.specs.Unsound.{Points}
 use Rattle.dispatcher.specs.Reports.{still_of}
-use Rattle.dispatcher.specs.declared.Answer.{Answer}
 use Rattle.dispatcher.specs.declared.Dispatcher.{Dispatcher}
 use Rattle.dispatcher.specs.declared.Outcome.{Outcome}
 

@@ -1,7 +1,6 @@
 -- A report in which nobody moved, started or stopped; and a report in plain numbers.
 use Rattle.dispatcher.specs.Limits.{none}
-use Rattle.dispatcher.specs.Answers.{number_of, place_of}
-use Rattle.dispatcher.specs.declared.Answer.{Answer}
+use Rattle.dispatcher.specs.Answers.{Answer, number_of, place_of}
 use Rattle.dispatcher.specs.declared.Report.{Report}
 use Rattle.dispatcher.specs.declared.PlainReport.{PlainReport}
 

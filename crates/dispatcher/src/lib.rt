@@ -5,12 +5,12 @@ ghost use Rattle.std.specs.Prelude.{◌≡◌};
 ghost use Rattle.laws.specs.Decides.{Decides};
 ghost use Rattle.dispatcher.specs.Limits.{LegalCount};
 ghost use Rattle.dispatcher.specs.Slots.{Used, Ready};
-ghost use Rattle.dispatcher.specs.Answers.{number_of, place_of};
+ghost use Rattle.dispatcher.specs.Answers.{refusal_number, refusal_place, number_of, place_of};
 ghost use Rattle.dispatcher.specs.Reports.{still_of, plain_of};
 ghost use Rattle.dispatcher.specs.Fresh.{empty_of, Freshly};
 
 #[repr(C)]
-#[derive(Clone, Copy)]
+#[derive(Clone, Copy, Debug, PartialEq, Eq)]
 pub struct Task {
     pub priority: u8,
     pub mask: u32,
@@ -27,16 +27,12 @@ impl Task {
     pub fn is_used(self) -> bool
         ensures { Decides (Used self) result }
     {
-        if self.priority == 0 {
-            self.mask != 0
-        } else {
-            true
-        }
+        self != Task::EMPTY
     }
 }
 
 #[repr(C)]
-#[derive(Clone, Copy)]
+#[derive(Clone, Copy, Debug, PartialEq, Eq)]
 pub struct Dispatcher {
     pub cores: u8,
     // The task of each slot.
@@ -49,19 +45,18 @@ pub struct Dispatcher {
 
 // A task and the slot that it is to fill, as boot lists and event files name it.
 #[repr(C)]
-#[derive(Clone, Copy)]
+#[derive(Clone, Copy, Debug, PartialEq, Eq)]
 pub struct TaskRecord {
     pub slot: u16,
     pub priority: u8,
     pub mask: u32,
 }
 
-// What a call answers. Those whose names begin with Unsound say why a dispatcher is not sound, and carry the count found or the lowest
+// Why a call is refused. Those whose names begin with Unsound say why a dispatcher is not sound, and carry the count found or the lowest
 // slot, place or core. `number` gives the papers' number; 1, which once stood for all five, and 11, which delete of a ready task once gave,
-// are no answer's.
-#[derive(Clone, Copy)]
-pub enum Answer {
-    Done,
+// are no refusal's.
+#[derive(Clone, Copy, Debug, PartialEq, Eq)]
+pub enum Refusal {
     UnsoundCount(u16),
     UnsoundSlot(u16),
     UnsoundPlace(u16),
@@ -83,64 +78,70 @@ pub enum Answer {
     EventCount,
 }
 
-impl Answer {
+impl Refusal {
     pub fn number(self) -> u8
-        ensures { result ≡ number_of self }
+        ensures { result ≡ refusal_number self }
     {
         match self {
-            Answer::Done => 0,
-            Answer::UnsoundCount(_) => 21,
-            Answer::UnsoundSlot(_) => 22,
-            Answer::UnsoundPlace(_) => 23,
-            Answer::UnsoundMissingCore(_) => 24,
-            Answer::UnsoundSeat(_) => 25,
-            Answer::CoreCount => 2,
-            Answer::SlotAbove => 3,
-            Answer::SlotInUse => 4,
-            Answer::SlotEmpty => 5,
-            Answer::PriorityZero => 6,
-            Answer::MaskEmpty => 7,
-            Answer::MissingCore => 8,
-            Answer::AlreadyReady => 9,
-            Answer::NotReady => 10,
-            Answer::FileShort => 12,
-            Answer::BytesAfter => 13,
-            Answer::BadKind => 14,
-            Answer::LineLong => 15,
-            Answer::EventCount => 16,
+            Refusal::UnsoundCount(_) => 21,
+            Refusal::UnsoundSlot(_) => 22,
+            Refusal::UnsoundPlace(_) => 23,
+            Refusal::UnsoundMissingCore(_) => 24,
+            Refusal::UnsoundSeat(_) => 25,
+            Refusal::CoreCount => 2,
+            Refusal::SlotAbove => 3,
+            Refusal::SlotInUse => 4,
+            Refusal::SlotEmpty => 5,
+            Refusal::PriorityZero => 6,
+            Refusal::MaskEmpty => 7,
+            Refusal::MissingCore => 8,
+            Refusal::AlreadyReady => 9,
+            Refusal::NotReady => 10,
+            Refusal::FileShort => 12,
+            Refusal::BytesAfter => 13,
+            Refusal::BadKind => 14,
+            Refusal::LineLong => 15,
+            Refusal::EventCount => 16,
         }
     }
 
-    // Where a dispatcher is not sound; 0 where the answer is another.
+    // Where a dispatcher is not sound; 0 where the refusal is another.
     pub fn place(self) -> u16
-        ensures { result ≡ place_of self }
+        ensures { result ≡ refusal_place self }
     {
         match self {
-            Answer::UnsoundCount(count) => count,
-            Answer::UnsoundSlot(slot) => slot,
-            Answer::UnsoundPlace(place) => place,
-            Answer::UnsoundMissingCore(core) => core,
-            Answer::UnsoundSeat(core) => core,
-            Answer::Done => 0,
-            Answer::CoreCount => 0,
-            Answer::SlotAbove => 0,
-            Answer::SlotInUse => 0,
-            Answer::SlotEmpty => 0,
-            Answer::PriorityZero => 0,
-            Answer::MaskEmpty => 0,
-            Answer::MissingCore => 0,
-            Answer::AlreadyReady => 0,
-            Answer::NotReady => 0,
-            Answer::FileShort => 0,
-            Answer::BytesAfter => 0,
-            Answer::BadKind => 0,
-            Answer::LineLong => 0,
-            Answer::EventCount => 0,
+            Refusal::UnsoundCount(count) => count,
+            Refusal::UnsoundSlot(slot) => slot,
+            Refusal::UnsoundPlace(place) => place,
+            Refusal::UnsoundMissingCore(core) | Refusal::UnsoundSeat(core) => core,
+            _ => 0,
         }
     }
 }
 
-#[derive(Clone, Copy)]
+// What a call answers.
+pub type Answer = Result<(), Refusal>;
+
+// 0 where it is done.
+pub fn number(answer: Answer) -> u8
+    ensures { result ≡ number_of answer }
+{
+    match answer {
+        Ok(()) => 0,
+        Err(refusal) => refusal.number(),
+    }
+}
+
+pub fn place(answer: Answer) -> u16
+    ensures { result ≡ place_of answer }
+{
+    match answer {
+        Ok(()) => 0,
+        Err(refusal) => refusal.place(),
+    }
+}
+
+#[derive(Clone, Copy, Debug, PartialEq, Eq)]
 pub struct Report {
     pub answer: Answer,
     pub moves: u8,
@@ -151,7 +152,7 @@ pub struct Report {
 
 // A report for C: the answer's number and place in place of the answer.
 #[repr(C)]
-#[derive(Clone, Copy)]
+#[derive(Clone, Copy, Debug, PartialEq, Eq)]
 pub struct PlainReport {
     pub number: u8,
     pub moves: u8,
@@ -172,24 +173,24 @@ impl Report {
             stopped: Dispatcher::NONE,
         }
     }
+}
 
-    // The report in plain numbers.
-    pub fn plain(self) -> PlainReport
-        ensures { result ≡ plain_of self }
-    {
-        let answer = self.answer;
+impl From<Report> for PlainReport {
+    ghost from_gives = { λ report plain. plain ≡ plain_of report };
+
+    fn from(report: Report) -> PlainReport {
         PlainReport {
-            number: answer.number(),
-            moves: self.moves,
-            started: self.started,
-            stopped: self.stopped,
-            place: answer.place(),
+            number: number(report.answer),
+            moves: report.moves,
+            started: report.started,
+            stopped: report.stopped,
+            place: place(report.answer),
         }
     }
 }
 
 // What a call by value gives back.
-#[derive(Clone, Copy)]
+#[derive(Clone, Copy, Debug, PartialEq, Eq)]
 pub struct Outcome {
     pub report: Report,
     pub dispatcher: Dispatcher,
@@ -210,24 +211,17 @@ impl Dispatcher {
     pub fn legal_count(cores: u8) -> bool
         ensures { Decides (LegalCount cores) result }
     {
-        if cores == 0 {
-            false
-        } else {
-            (cores as usize) <= Dispatcher::CORES
-        }
+        1 <= cores && usize::from(cores) <= Dispatcher::CORES
     }
 
     fn empty(cores: u8) -> Dispatcher
         ensures { result ≡ empty_of cores }
     {
-        let tasks = [Task::EMPTY; Dispatcher::SLOTS];
-        let order = [Dispatcher::NONE; Dispatcher::SLOTS];
-        let seats = [Dispatcher::NONE; Dispatcher::CORES];
         Dispatcher {
             cores,
-            tasks,
-            order,
-            seats,
+            tasks: [Task::EMPTY; Dispatcher::SLOTS],
+            order: [Dispatcher::NONE; Dispatcher::SLOTS],
+            seats: [Dispatcher::NONE; Dispatcher::CORES],
         }
     }
 
@@ -235,33 +229,28 @@ impl Dispatcher {
     pub fn fresh(cores: u8) -> Outcome
         ensures { Freshly cores result }
     {
-        if !Dispatcher::legal_count(cores) {
-            let report = Report::still(Answer::CoreCount);
-            let dispatcher = Dispatcher::empty(1);
-            return Outcome { report, dispatcher };
+        if Dispatcher::legal_count(cores) {
+            Outcome {
+                report: Report::still(Ok(())),
+                dispatcher: Dispatcher::empty(cores),
+            }
+        } else {
+            Outcome {
+                report: Report::still(Err(Refusal::CoreCount)),
+                dispatcher: Dispatcher::empty(1),
+            }
         }
-        let report = Report::still(Answer::Done);
-        let dispatcher = Dispatcher::empty(cores);
-        Outcome { report, dispatcher }
     }
 
     // Whether the slot stands in the wake order.
     pub fn is_ready(self, slot: u16) -> bool
         ensures { Decides (Ready self slot) result }
     {
-        if Dispatcher::SLOTS <= (slot as usize) {
-            return false;
-        }
         // No exit at the place where it stands: so the compiler compares many places at once.
         let mut found = false;
-        let mut k: usize = 0;
-        while k < Dispatcher::SLOTS {
-            let stands = self.order[k];
-            if stands == slot {
-                found = true;
-            }
-            k += 1;
+        for stands in &self.order {
+            found |= *stands == slot;
         }
-        found
+        found && usize::from(slot) < Dispatcher::SLOTS
     }
 }
