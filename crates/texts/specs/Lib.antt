@@ -1,3 +1,2 @@
-pub mod Put
 pub mod Joined
 pub mod HandOver
