@@ -10,7 +10,8 @@ use std::io;
 use std::io::{Eprint, Read};
 use std::rt::Env;
 
-// Reads until the bytes are full or the input ends; how many bytes were read.
+// Reads until the bytes are full or the input ends; how many bytes were read. Each turn passes as many bytes as its read gave, and std's `read_exact` does not
+// tell how many there were.
 pub fn read_full<R: Read>(input: &mut R, bytes: &mut [u8]) -> io::Result<usize>
     ensures within { IfOk result (λ n. n ≤ length bytes.new) }
     ensures read { IfOk result (λ n. Consumes (R.remaining input.old) (R.remaining input.new) (take n bytes.new)) }
@@ -18,11 +19,10 @@ pub fn read_full<R: Read>(input: &mut R, bytes: &mut [u8]) -> io::Result<usize>
 {
     let mut n: usize = 0;
     while n < bytes.len() {
-        let more = input.read(&mut bytes[n..])?;
-        if more == 0 {
-            return Ok(n);
+        match input.read(&mut bytes[n..])? {
+            0 => return Ok(n),
+            more => n += more,
         }
-        n += more;
     }
     Ok(n)
 }
@@ -34,22 +34,17 @@ fn has_arg(env: &impl Env, i: usize) -> bool {
 
 // How many arguments the program was started with, its own name among them.
 pub fn arg_count(env: &impl Env) -> usize {
-    for i in 0..usize::MAX {
-        if !has_arg(env, i) {
-            return i;
-        }
-    }
-    usize::MAX
+    (0..usize::MAX)
+        .find(|i| !has_arg(env, *i))
+        .unwrap_or(usize::MAX)
 }
 
-// Puts an argument at the start of the bytes and gives its length: 0 where it is missing or longer than the bytes.
-pub fn arg(env: &impl Env, i: usize, bytes: &mut [u8]) -> usize
-    ensures { result ≤ length bytes.new }
+// Puts an argument at the start of the bytes and gives it: nothing where it is missing or longer than the bytes.
+pub fn arg<'a>(env: &impl Env, i: usize, bytes: &'a mut [u8]) -> &'a [u8]
+    ensures { length result.now ≤ length bytes.old }
 {
-    match env.arg(i, bytes) {
-        Ok(n) => n,
-        Err(_) => 0,
-    }
+    let length = env.arg(i, bytes).unwrap_or(0);
+    &bytes[..length]
 }
 
 // Long enough for the system's longest reason and its number.
