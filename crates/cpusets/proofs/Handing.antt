@@ -1,42 +1,21 @@
--- The ends of writing a text: refused, or handed over.
+-- The ends of writing a set: refused, or its text handed over.
 use Prim.Native.Nat.{ℕ}
-use mathlib.Core.Path.{◌≡◌, refl, ap}
-use mathlib.Core.Bool.{Bool, true, false}
+use mathlib.Core.Path.{refl}
 use mathlib.Core.List.{List}
-use native.Mathlib.Omega.{arith}
-use lib.ListN.{length, take}
-use Rattle.std.specs.Prelude.{Ok, Err}
+use Rattle.std.specs.Prelude.{Err}
 use Rattle.masks.specs.Masks.{NamesMissing}
-use Rattle.texts.specs.HandOver.{HandsOver}
 use Rattle.cpusets.specs.Answers.{Written}
-use Rattle.cpusets.specs.Writing.{Equals, WritesText, Writes, Made}
-use Rattle.cpusets.specs.declared.Refusal.TheVariants.{AboveLimit, OutputShort}
-
--- there was room, or there was not
-pub handed : {t before after : List ℕ} {size : ℕ} {r : Bool} → size ≡ length t → HandsOver t before after r → r ≡ true → WritesText (Equals t) before after (Ok size)
-handed {t} e h y = record {
-  text = t;
-  is = refl;
-  short = λ l. absurd (omega (arith, h.room.yes y));
-  room = λ _. record { told = ap Ok e; written = h.written y };
-}
-
-pub not_handed : {t before after : List ℕ} {r : Bool} → HandsOver t before after r → r ≡ false → WritesText (Equals t) before after (Err OutputShort)
-not_handed {t} h y = record {
-  text = t;
-  is = refl;
-  short = λ _. record { answer = refl; kept = h.kept y };
-  room = λ l. absurd (h.room.no y l);
-}
+use Rattle.cpusets.specs.Writing.{Equals, WritesText, Writes}
+use Rattle.cpusets.specs.declared.Refusal.TheVariants.{AboveLimit}
 
 -- the set names a core at or above the limit
 pub writes_above : {TextOf : List ℕ → Type 0} {n s : ℕ} {before : List ℕ} → NamesMissing n s → Writes TextOf n s before before (Err AboveLimit)
 writes_above h = record { above = λ _. record { answer = refl; kept = refl }; below = λ k. absurd (k h) }
 
--- it names none, and the text that was made is handed over
-pub writes_below : {TextOf : List ℕ → Type 0} {n s size : ℕ} {bytes before after : List ℕ} {r : Written}
-    → (NamesMissing n s → ⊥) → Made TextOf bytes size → WritesText (Equals (take size bytes)) before after r → Writes TextOf n s before after r
+-- it names none, and its text is handed over
+pub writes_below : {TextOf : List ℕ → Type 0} {n s : ℕ} {text before after : List ℕ} {r : Written}
+    → (NamesMissing n s → ⊥) → TextOf text → WritesText (Equals text) before after r → Writes TextOf n s before after r
 writes_below k m w = record {
   above = λ h. absurd (k h);
-  below = λ _. record { text = w.text; is = rw w.is m.is; short = w.short; room = w.room };
+  below = λ _. record { text = w.text; is = rw w.is m; short = w.short; room = w.room };
 }

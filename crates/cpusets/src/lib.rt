@@ -2,9 +2,7 @@
 // bit k for core k.
 #![tactic(auto)]
 
-ghost use Rattle.std.specs.Prelude.{◌≤◌, ◌≡◌, length, take};
-ghost use Rattle.laws.specs.Decides.{Decides};
-ghost use Rattle.masks.specs.Masks.{NamesMissing};
+ghost use Rattle.std.specs.Prelude.{◌≡◌};
 ghost use Rattle.cpusets.specs.Answers.{number_of};
 ghost use Rattle.cpusets.specs.Limit.{cores_of};
 ghost use Rattle.cpusets.specs.Reading.{plain_of};
@@ -80,21 +78,9 @@ pub fn cores(limit: u8) -> u8
     limit.min(WIDTH)
 }
 
-// Whether a set names a core at or above the count.
-pub fn names_above(set: u64, n: u8) -> bool
-    ensures { Decides (NamesMissing n set) result }
-{
-    if n < WIDTH { (set >> n) != 0 } else { false }
-}
-
 // Hands a text over to the lent buffer and gives its length, or refuses where the buffer is too short.
-pub fn hand_over(text: &[u8], size: usize, buffer: &mut [u8]) -> Result<usize, Refusal>
-    requires { size ≤ length text.now }
-    ensures { WritesText (Equals (take size text.now)) buffer.old buffer.new result }
+pub fn hand_over(text: &[u8], buffer: &mut [u8]) -> Result<usize, Refusal>
+    ensures { WritesText (Equals text.now) buffer.old buffer.new result }
 {
-    if texts::hand_over(text, size, buffer) {
-        Ok(size)
-    } else {
-        Err(Refusal::OutputShort)
-    }
+    texts::hand_over(text, buffer).ok_or(Refusal::OutputShort)
 }
