@@ -6,21 +6,22 @@ use mathlib.Core.List.{List}
 use native.Mathlib.Decide.{dec_lt}
 use native.Mathlib.Omega.{arith}
 use lib.ListN.{length, take}
+use Rattle.std.specs.Prelude.{Result, Ok, Err}
 use lib.Seq.{take_all, get_or-take, length-take-le}
 use Rattle.laws.specs.Answering.{Applies}
 use Rattle.dispatcher.specs.Limits.{event_limit}
 use Rattle.files.specs.Layout.{byte, record_count_of, count_place, event_count, end_place, largest_file}
 use Rattle.files.specs.Faults.{WellFormed, faults_at, FirstFault}
 use Rattle.files.specs.Reading.{Reads}
-use Rattle.files.specs.declared.Reading.{Reading}
-use Rattle.files.specs.declared.Reading.TheVariants.{Layout, Refused}
+use Rattle.files.specs.declared.Layout.{Layout}
+use Rattle.files.specs.declared.Fault.{Fault}
 
 pub largest : (b : List ℕ) → record_count_of b ≤ 255 → WellFormed b → length b ≤ largest_file
 largest b small w = omega (arith, w.whole, w.events)
 
 -- a layout has few records and events
-pub few_calls : (b : List ℕ) (cores records events : ℕ) → record_count_of b ≤ 255 → Reads b (Layout cores records events) → records + events ≤ 255 + event_limit
-few_calls b cores records events small h = omega (arith, h.0.events, h.2, h.3)
+pub few_calls : (b : List ℕ) (l : Layout) → record_count_of b ≤ 255 → Reads b (Ok l) → l.records + l.events ≤ 255 + event_limit
+few_calls b l small h = omega (arith, h.0.events, h.2, h.3)
 
 -- two files whose first m bytes are the same, their counts among them
 record Agree (m : ℕ) (b c : List ℕ) : Type 0 where
@@ -74,8 +75,8 @@ first_early b {n} {o} small large f = go f.there
     go (inr (inr (inr (inr (inr n))))) = elim n [ ]
 
 module _ (b : List ℕ) (m : ℕ) (small : record_count_of b ≤ 255) (large : largest_file < m) where
-  cut_longer : m < length b → (r : Reading) → Reads (take m b) r → Reads b r
-  cut_longer longer = elim [ Layout cores records events ↦ λ h. absurd (omega (arith, long, largest (take m b) few h.0)) | Refused answer o ↦ λ h. refused h ]
+  cut_longer : m < length b → (r : Result Layout Fault) → Reads (take m b) r → Reads b r
+  cut_longer longer = elim [ Ok l ↦ λ h. absurd (omega (arith, long, largest (take m b) few h.0)) | Err f ↦ λ h. refused h ]
     where
       long : length (take m b) ≡ m
       long = length-take-le m b (omega arith)
@@ -97,7 +98,7 @@ module _ (b : List ℕ) (m : ℕ) (small : record_count_of b ≤ 255) (large : l
           go k p h (no l) = omega (arith, early)
 
   -- the verdict on the first m bytes is that on the whole file, however long it is
-  pub cut_same : (r : Reading) → Reads (take m b) r → Reads b r
+  pub cut_same : (r : Result Layout Fault) → Reads (take m b) r → Reads b r
   cut_same r h = go (dec_lt m (length b))
     where
       go : Dec (m < length b) → Reads b r

@@ -6,13 +6,14 @@ use mathlib.Core.List.{List}
 use native.Mathlib.Decide.{dec_le, dec_lt}
 use native.Mathlib.Omega.{arith}
 use lib.ListN.{length}
+use Rattle.std.specs.Prelude.{Result, Ok}
 use Rattle.laws.specs.Answering.{Applies}
 use Rattle.dispatcher.specs.Limits.{event_limit}
 use Rattle.files.specs.Layout.{core_count, record_count_of, event_count, event_place, end_place}
 use Rattle.files.specs.Faults.{WellFormed, faults_at}
 use Rattle.files.specs.Reading.{Reads}
-use Rattle.files.specs.declared.Reading.{Reading}
-use Rattle.files.specs.declared.Reading.TheVariants.{Layout}
+use Rattle.files.specs.declared.Layout.{Layout}
+use Rattle.files.specs.declared.Fault.{Fault}
 use Rattle.files.proofs.Same.{no_fault, reads_same}
 
 pub well_formed_faultless : (b : List ℕ) → WellFormed b → (m p : ℕ) → Applies (faults_at b p) m → ⊥
@@ -44,8 +45,11 @@ faultless_well_formed b none = go (dec_lt (length b) (end_place b)) (dec_lt (end
 
 -- ---- the reader accepts exactly the well-formed files
 
-pub accepted_well_formed : (b : List ℕ) (cores records events : ℕ) → Reads b (Layout cores records events) → WellFormed b
-accepted_well_formed b cores records events h = h.0
+abbrev pub layout_of : List ℕ → Layout
+layout_of b = record { cores = core_count b; records = record_count_of b; events = event_count b }
 
-pub well_formed_accepted : (b : List ℕ) (r : Reading) → WellFormed b → Reads b r → r ≡ Layout (core_count b) (record_count_of b) (event_count b)
-well_formed_accepted b r w h = reads_same b r (Layout (core_count b) (record_count_of b) (event_count b)) h (w, refl, refl, refl)
+pub accepted_well_formed : (b : List ℕ) (l : Layout) → Reads b (Ok l) → WellFormed b
+accepted_well_formed b l h = h.0
+
+pub well_formed_accepted : (b : List ℕ) (r : Result Layout Fault) → WellFormed b → Reads b r → r ≡ Ok (layout_of b)
+well_formed_accepted b r w h = reads_same b r (Ok (layout_of b)) h (w, refl, refl, refl)

@@ -1,4 +1,3 @@
-pub mod Verdicts
 pub mod Same
 pub mod Faultless
 pub mod Sections

@@ -7,20 +7,19 @@ use mathlib.Core.List.{List}
 use native.Mathlib.Omega.{arith}
 use lib.Dec.{eqb, ltb, leb}
 use lib.ListN.{length}
+use Rattle.std.specs.Prelude.{Option, Some, None, Result, Ok, Err}
 use borrow.Author.Tests.{eq-eqb, ne_eqb, lt-ltb, le-ltb, le-leb, lt-leb}
 use Rattle.laws.specs.Answering.{Applies, checked_first}
 use Rattle.laws.proofs.Answering.{from_applies}
-use Rattle.dispatcher.specs.Answers.{number_of}
+use Rattle.dispatcher.specs.Answers.{refusal_number}
+use Rattle.dispatcher.specs.declared.TaskRecord.{TaskRecord}
 use Rattle.dispatcher.proofs.Same.{number_same}
 use Rattle.files.specs.Layout.{count_place, end_place}
 use Rattle.files.specs.Faults.{WellFormed, faults_at, FirstFault}
 use Rattle.files.specs.Reading.{Reads, ReadsRecord, ReadsEvent}
-use Rattle.files.specs.declared.Reading.{Reading}
-use Rattle.files.specs.declared.Reading.TheVariants.{Layout, Refused}
-use Rattle.files.specs.declared.FileRecord.{FileRecord}
-use Rattle.files.specs.declared.FileRecord.TheVariants.{Record, NoRecord}
+use Rattle.files.specs.declared.Layout.{Layout}
+use Rattle.files.specs.declared.Fault.{Fault}
 use Rattle.files.specs.declared.FileEvent.{FileEvent}
-use Rattle.files.specs.declared.FileEvent.TheVariants.{Event, NoEvent}
 
 -- ---- a file's faults
 
@@ -57,23 +56,24 @@ no_fault W n o (inr (inr (inr (inr (inr x))))) = absurd x
 
 -- ---- the three functions
 
-pub reads_same : (b : List ℕ) (r q : Reading) → Reads b r → Reads b q → r ≡ q
-reads_same b (Layout cores records events) (Layout cores' records' events') x y = cc
-reads_same b (Layout cores records events) (Refused answer offset) x y = absurd (no_fault x.0 (number_of answer) offset y.there)
-reads_same b (Refused answer offset) (Layout cores records events) x y = absurd (no_fault y.0 (number_of answer) offset x.there)
-reads_same b (Refused answer offset) (Refused answer' offset') x y =
+pub reads_same : (b : List ℕ) (r q : Result Layout Fault) → Reads b r → Reads b q → r ≡ q
+reads_same b (Ok l) (Ok k) x y = λ j. Ok (record { cores = (x.1 ∙ sym y.1) j; records = (x.2 ∙ sym y.2) j; events = (x.3 ∙ sym y.3) j })
+reads_same b (Ok l) (Err f) x y = absurd (no_fault x.0 (refusal_number f.refusal) f.offset y.there)
+reads_same b (Err f) (Ok l) x y = absurd (no_fault y.0 (refusal_number f.refusal) f.offset x.there)
+reads_same b (Err f) (Err g) x y =
     let same = fault_same x y in
-    let later = from_applies (length checked_first) (faults_at b offset) (number_of answer) (omega arith, (omega arith, (omega arith, (omega arith, (omega arith, tt))))) x.there in
-    cc (number_same {a = answer} {b = answer'} later same.0, same.1)
+    let later = from_applies (length checked_first) (faults_at b f.offset) (refusal_number f.refusal) (omega arith, (omega arith, (omega arith, (omega arith, (omega arith, tt))))) x.there in
+    let refusal : f.refusal ≡ g.refusal = cc (number_same {a = Err f.refusal} {b = Err g.refusal} later same.0) in
+    λ j. Err (record { refusal = refusal j; offset = same.1 j })
 
-pub record_same : (b : List ℕ) (i : ℕ) (r q : FileRecord) → ReadsRecord b i r → ReadsRecord b i q → r ≡ q
-record_same b i (Record slot priority mask) (Record slot' priority' mask') x y = cc
-record_same b i (Record slot priority mask) NoRecord x y = absurd (y x.0)
-record_same b i NoRecord (Record slot priority mask) x y = absurd (x y.0)
-record_same b i NoRecord NoRecord x y = refl
+pub record_same : (b : List ℕ) (i : ℕ) (r q : Option TaskRecord) → ReadsRecord b i r → ReadsRecord b i q → r ≡ q
+record_same b i (Some r) (Some q) x y = λ j. Some (record { slot = (x.1 ∙ sym y.1) j; priority = (x.2 ∙ sym y.2) j; mask = (x.3 ∙ sym y.3) j })
+record_same b i (Some r) None x y = absurd (y x.0)
+record_same b i None (Some q) x y = absurd (x y.0)
+record_same b i None None x y = refl
 
-pub event_same : (b : List ℕ) (i : ℕ) (r q : FileEvent) → ReadsEvent b i r → ReadsEvent b i q → r ≡ q
-event_same b i (Event kind slot) (Event kind' slot') x y = cc
-event_same b i (Event kind slot) NoEvent x y = absurd (y x.0)
-event_same b i NoEvent (Event kind slot) x y = absurd (x y.0)
-event_same b i NoEvent NoEvent x y = refl
+pub event_same : (b : List ℕ) (i : ℕ) (r q : Option FileEvent) → ReadsEvent b i r → ReadsEvent b i q → r ≡ q
+event_same b i (Some r) (Some q) x y = λ j. Some (record { kind = (x.1 ∙ sym y.1) j; slot = (x.2 ∙ sym y.2) j })
+event_same b i (Some r) None x y = absurd (y x.0)
+event_same b i None (Some q) x y = absurd (x y.0)
+event_same b i None None x y = refl

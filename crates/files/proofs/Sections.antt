@@ -6,6 +6,7 @@ use native.Mathlib.Nat.{mod-add-div, pow-suc, add-zero}
 use native.Mathlib.Numerals.{add-one}
 use native.Mathlib.Omega.{arith}
 use lib.ListN.{length, get_or, drop, length-append, length-drop}
+use Rattle.std.specs.Prelude.{Some}
 use lib.Seq.{get_or-append-add, get_or-drop, drop-cons, drop-drop, ext_get_or}
 use Rattle.laws.specs.Lists.{All}
 use Rattle.laws.proofs.Lists.{all_at}
@@ -15,8 +16,6 @@ use Rattle.files.specs.Layout.{byte, lowest_first, mask_bytes, core_count, recor
 use Rattle.files.specs.Faults.{IsEventKind, WellFormed}
 use Rattle.files.specs.Reading.{ReadsRecord, ReadsEvent}
 use Rattle.files.specs.Day.{Happening, Day, bytes_of, record_bytes, event_bytes, file_of, FitsByte, Bytes, FitsRecord, FitsEvent, no_event, LegalDay}
-use Rattle.files.specs.declared.FileRecord.TheVariants.{Record}
-use Rattle.files.specs.declared.FileEvent.TheVariants.{Event}
 
 -- ---- numbers in bytes, lowest first
 
@@ -212,7 +211,7 @@ module _ (d : Day) (legal : LegalDay d) where
     whole = file_long;
   }
 
-  pub record_back : (i : ℕ) → i < length d.records → (let r : TaskRecord = get_or d.records i no_record in ReadsRecord (file_of d) i (Record r.slot r.priority r.mask))
+  pub record_back : (i : ℕ) → i < length d.records → ReadsRecord (file_of d) i (Some (get_or d.records i no_record))
   record_back i l =
       let e = sym (record_is i l) in (
         record { counted = l; there = omega (arith, file_long) },
@@ -221,7 +220,7 @@ module _ (d : Day) (legal : LegalDay d) where
         ap (λ (r : TaskRecord). r.mask) e,
       )
 
-  pub event_back : (i : ℕ) → i < length d.events → (let e : Happening = get_or d.events i no_event in ReadsEvent (file_of d) i (Event e.kind e.slot))
+  pub event_back : (i : ℕ) → i < length d.events → (let e : Happening = get_or d.events i no_event in ReadsEvent (file_of d) i (Some (record { kind = e.kind; slot = e.slot })))
   event_back i l =
       let e = sym (event_is i l) in (
         record { counted = omega (arith, events_counted); there = omega (arith, file_long, events_counted) },

@@ -1,38 +1,35 @@
 // Reads event files: the layout of a whole file or its first fault, and its records and events one by one.
 #![tactic(auto)]
 
-ghost use Rattle.std.specs.Prelude.{◌+◌, ◌*◌, ◌≤◌, ◌<◌, ◌≡◌, length, replicate};
+ghost use Rattle.std.specs.Prelude.{◌+◌, ◌*◌, ◌≤◌, ◌≡◌, length, replicate, SomeIff, MatchResult};
 ghost use Rattle.laws.specs.Decides.{Decides};
 ghost use Rattle.files.specs.Layout.{lowest_first, largest_file};
-ghost use Rattle.files.specs.Faults.{IsEventKind};
+ghost use Rattle.files.specs.Faults.{IsEventKind, WellFormed};
 ghost use Rattle.files.specs.Events.{HeadRead, FirstBad};
-ghost use Rattle.files.specs.Reading.{Reads, ReadsRecord, ReadsEvent};
+ghost use Rattle.files.specs.Reading.{IsFirstFault, Reads, ReadsRecord, ReadsEvent};
 
-use dispatcher::{Answer, Dispatcher};
+use dispatcher::{Dispatcher, Refusal, TaskRecord};
+use std::cmp::Ordering;
 
-#[derive(Clone, Copy)]
-pub enum Reading {
-    Layout {
-        cores: u8,
-        records: usize,
-        events: usize,
-    },
-    Refused {
-        answer: Answer,
-        offset: usize,
-    },
+// How a well-formed file is laid out.
+#[derive(Clone, Copy, Debug, PartialEq, Eq)]
+pub struct Layout {
+    pub cores: u8,
+    pub records: usize,
+    pub events: usize,
 }
 
-#[derive(Clone, Copy)]
-pub enum FileRecord {
-    Record { slot: u16, priority: u8, mask: u32 },
-    NoRecord,
+// Why a file is refused, and at which of its bytes.
+#[derive(Clone, Copy, Debug, PartialEq, Eq)]
+pub struct Fault {
+    pub refusal: Refusal,
+    pub offset: usize,
 }
 
-#[derive(Clone, Copy)]
-pub enum FileEvent {
-    Event { kind: u8, slot: u16 },
-    NoEvent,
+#[derive(Clone, Copy, Debug, PartialEq, Eq)]
+pub struct FileEvent {
+    pub kind: u8,
+    pub slot: u16,
 }
 
 // The largest file that is well formed: 255 records and as many events as there may be.
@@ -57,158 +54,137 @@ pub fn room() -> [u8; LARGEST + 1]
     [0; LARGEST + 1]
 }
 
-// A number of two bytes, lowest first.
-fn pair(file: &[u8], at: usize) -> u32
-    requires { at + 1 < length file.now }
-    ensures { (result ≡ lowest_first 2 file.now at) × (result < 65536) }
+impl Fault {
+    // The file ends too early.
+    fn early_end(file: &[u8]) -> Fault
+        ensures { result ≡ record { refusal = Refusal.FileShort; offset = length file.now } }
+    {
+        Fault {
+            refusal: Refusal::FileShort,
+            offset: file.len(),
+        }
+    }
+}
+
+// A number of two bytes, lowest first, where the file has them.
+fn pair(file: &[u8], at: usize) -> Option<u16>
+    ensures { SomeIff result (at + 2 ≤ length file.now) (lowest_first 2 file.now at) }
 {
-    (file[at] as u32) + 256 * (file[at + 1] as u32)
+    let bytes = file.get(at..)?.first_chunk()?;
+    Some(u16::from_le_bytes(*bytes))
 }
 
 fn is_event_kind(kind: u8) -> bool
     ensures { Decides (IsEventKind kind) result }
 {
-    if kind == 0 { false } else { kind <= 3 }
+    matches!(kind, 1..=3)
 }
 
-// The first event whose kind is in the file and is no event's, or the count where there is no such event.
-fn bad_kind(file: &[u8], at: usize, events: usize) -> usize
+// The first event whose kind is in the file and is no event's.
+fn bad_kind(file: &[u8], at: usize, events: usize) -> Option<usize>
     requires { at + 2 * events ≤ 65536 }
     ensures { FirstBad file.now at events result }
 {
-    let mut i: usize = 0;
-    while i < events {
-        let k = at + EVENT * i;
-        if file.len() <= k {
-            return events;
+    for i in 0..events {
+        let kind = *file.get(at + EVENT * i)?;
+        if !is_event_kind(kind) {
+            return Some(i);
         }
-        if !is_event_kind(file[k]) {
-            return i;
-        }
-        i += 1;
     }
-    events
+    None
+}
+
+// The counts, or the first fault before the events.
+fn read_head(file: &[u8]) -> Result<Layout, Fault>
+    ensures { MatchResult result (HeadRead file.now) (IsFirstFault file.now) }
+{
+    let cores = *file.first().ok_or(Fault::early_end(file))?;
+    if !Dispatcher::legal_count(cores) {
+        return Err(Fault {
+            refusal: Refusal::CoreCount,
+            offset: 0,
+        });
+    }
+    let records = *file.get(1).ok_or(Fault::early_end(file))?;
+    let count_at = RECORDS_AT + RECORD * usize::from(records);
+    let events = pair(file, count_at).ok_or(Fault::early_end(file))?;
+    let layout = Layout {
+        cores,
+        records: usize::from(records),
+        events: usize::from(events),
+    };
+    if Dispatcher::EVENTS < layout.events {
+        return Err(Fault {
+            refusal: Refusal::EventCount,
+            offset: count_at,
+        });
+    }
+    Ok(layout)
 }
 
 // The verdict on the events and on where the file ends; what stands before them is in order.
-fn read_events(file: &[u8], cores: u8, records: usize, events: usize) -> Reading
-    requires { HeadRead file.now cores records events }
-    ensures { Reads file.now result }
+fn read_events(file: &[u8], layout: Layout) -> Result<(), Fault>
+    requires { HeadRead file.now layout }
+    ensures { MatchResult result (λ done. WellFormed file.now) (IsFirstFault file.now) }
 {
-    let count_at = RECORDS_AT + RECORD * records;
-    let bad = bad_kind(file, count_at + COUNT, events);
-    if bad < events {
-        let offset = count_at + COUNT + EVENT * bad;
-        return Reading::Refused {
-            answer: Answer::BadKind,
-            offset,
-        };
+    let events_at = RECORDS_AT + RECORD * layout.records + COUNT;
+    if let Some(bad) = bad_kind(file, events_at, layout.events) {
+        return Err(Fault {
+            refusal: Refusal::BadKind,
+            offset: events_at + EVENT * bad,
+        });
     }
-    let end = count_at + COUNT + EVENT * events;
-    let length = file.len();
-    if length < end {
-        return Reading::Refused {
-            answer: Answer::FileShort,
-            offset: length,
-        };
-    }
-    if end < length {
-        return Reading::Refused {
-            answer: Answer::BytesAfter,
+    let end = events_at + EVENT * layout.events;
+    match file.len().cmp(&end) {
+        Ordering::Less => Err(Fault::early_end(file)),
+        Ordering::Equal => Ok(()),
+        Ordering::Greater => Err(Fault {
+            refusal: Refusal::BytesAfter,
             offset: end,
-        };
-    }
-    Reading::Layout {
-        cores,
-        records,
-        events,
+        }),
     }
 }
 
 // The layout of a well-formed file, or the first fault from the left.
-pub fn read(file: &[u8]) -> Reading
+pub fn read(file: &[u8]) -> Result<Layout, Fault>
     ensures { Reads file.now result }
 {
-    if file.len() == 0 {
-        return Reading::Refused {
-            answer: Answer::FileShort,
-            offset: file.len(),
-        };
-    }
-    let cores = file[0];
-    if !Dispatcher::legal_count(cores) {
-        return Reading::Refused {
-            answer: Answer::CoreCount,
-            offset: 0,
-        };
-    }
-    if file.len() == 1 {
-        return Reading::Refused {
-            answer: Answer::FileShort,
-            offset: file.len(),
-        };
-    }
-    let records = file[1] as usize;
-    let count_at = RECORDS_AT + RECORD * records;
-    if file.len() < count_at + COUNT {
-        return Reading::Refused {
-            answer: Answer::FileShort,
-            offset: file.len(),
-        };
-    }
-    let events = pair(file, count_at) as usize;
-    if Dispatcher::EVENTS < events {
-        return Reading::Refused {
-            answer: Answer::EventCount,
-            offset: count_at,
-        };
-    }
-    read_events(file, cores, records, events)
+    let layout = read_head(file)?;
+    read_events(file, layout)?;
+    Ok(layout)
 }
 
 // Record i, where the file has it.
-pub fn record(file: &[u8], i: usize) -> FileRecord
+pub fn record(file: &[u8], i: usize) -> Option<TaskRecord>
     ensures { ReadsRecord file.now i result }
 {
-    if file.len() < RECORDS_AT {
-        return FileRecord::NoRecord;
-    }
-    if (file[1] as usize) <= i {
-        return FileRecord::NoRecord;
+    let records = *file.get(1)?;
+    if usize::from(records) <= i {
+        return None;
     }
     let at = RECORDS_AT + RECORD * i;
-    if file.len() < at + RECORD {
-        return FileRecord::NoRecord;
-    }
-    let slot = file[at] as u16;
-    let priority = file[at + 1];
-    let mask = pair(file, at + 2) + 65536 * pair(file, at + 4);
-    FileRecord::Record {
-        slot,
+    let [slot, priority, a, b, c, d] = *file.get(at..)?.first_chunk::<RECORD>()?;
+    Some(TaskRecord {
+        slot: u16::from(slot),
         priority,
-        mask,
-    }
+        mask: u32::from_le_bytes([a, b, c, d]),
+    })
 }
 
 // Event i, where the file has it.
-pub fn event(file: &[u8], i: usize) -> FileEvent
+pub fn event(file: &[u8], i: usize) -> Option<FileEvent>
     ensures { ReadsEvent file.now i result }
 {
-    if file.len() < RECORDS_AT {
-        return FileEvent::NoEvent;
-    }
-    let count_at = RECORDS_AT + RECORD * (file[1] as usize);
-    if file.len() < count_at + COUNT {
-        return FileEvent::NoEvent;
-    }
-    if (pair(file, count_at) as usize) <= i {
-        return FileEvent::NoEvent;
+    let records = *file.get(1)?;
+    let count_at = RECORDS_AT + RECORD * usize::from(records);
+    let events = pair(file, count_at)?;
+    if usize::from(events) <= i {
+        return None;
     }
     let at = count_at + COUNT + EVENT * i;
-    if file.len() < at + EVENT {
-        return FileEvent::NoEvent;
-    }
-    let kind = file[at];
-    let slot = file[at + 1] as u16;
-    FileEvent::Event { kind, slot }
+    let [kind, slot] = *file.get(at..)?.first_chunk::<EVENT>()?;
+    Some(FileEvent {
+        kind,
+        slot: u16::from(slot),
+    })
 }

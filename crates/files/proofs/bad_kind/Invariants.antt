@@ -1,10 +1,6 @@
--- `bad_kind` meets its promise: no event below the loop's is bad, and none whose kind is past the file's end.
-use Prim.Native.Nat.{ℕ, ◌≤◌, ◌<◌, ◌-◌}
-use Rattle.files.specs.Events.{BadAt}
+-- `bad_kind` meets its promise: no event below the loop's is bad.
+use Rattle.files.specs.Events.{NoneBad}
 use Rattle.files.proofs.bad_kind.Given as goal
 
 abbrev pub invariant-loop-i : goal.invariant-loop-i
-invariant-loop-i l = (l.i ≤ l.events) × ((j : ℕ) → j < l.i → BadAt l.file l.at j → ⊥)
-
-abbrev pub decreases-loop-i : goal.decreases-loop-i
-decreases-loop-i l = l.events - l.i
+invariant-loop-i l = NoneBad l.file l.at l.i
