@@ -1,55 +1,59 @@
-// Numbers as decimal text in lent bytes, and the line of a refusal, which is made of them.
+// Numbers as decimal text, and the line of a refusal, which is made of them.
 #![tactic(auto)]
 
-ghost use Rattle.std.specs.Prelude.{◌+◌, ◌≤◌, ◌<◌, ◌≡◌, ◌∷◌, length};
-ghost use Rattle.texts.specs.Put.{Puts};
+ghost use Rattle.std.specs.Prelude.{◌+◌, ◌≤◌, ◌≡◌, ◌∷◌, ◌++◌, length};
 ghost use Rattle.texts.specs.Joined.{space};
-ghost use Rattle.decimals.specs.Decimal.{digit as decimal_digit, decimal};
+ghost use Rattle.decimals.specs.Decimal.{decimal};
 ghost use Rattle.decimals.specs.Fault.{fault_text};
+
+use arrayvec::ArrayVec;
 
 // No line of a refusal has more bytes, its newline included.
 pub const LONGEST_FAULT: usize = 36;
 
-fn digit(d: u64) -> u8
-    requires { d < 10 }
-    ensures { result ≡ decimal_digit d }
+// The text of n. No number of 64 bits has more than 20 digits.
+#[tactic(auto, using(crate::proofs::Spelling::decimal_small, crate::proofs::Spelling::decimal_more, crate::proofs::Spelling::decimal_length))]
+fn digits(n: u64) -> ArrayVec<u8, 20>
+    ensures { result.items ≡ decimal n }
 {
-    48 + d as u8
+    let mut text = if n < 10 {
+        ArrayVec::new()
+    } else {
+        digits(n / 10)
+    };
+    text.push(b'0' + (n % 10) as u8);
+    text
 }
 
-// Puts n at a place and gives the place after it. Whoever calls has made sure of the room.
-pub fn put(text: &mut [u8], at: usize, n: u64) -> usize
-    requires { at + length (decimal n) ≤ length text.old }
-    ensures { Puts (decimal n) at text.old text.new result }
+// Puts n behind a text. Whoever calls has made sure of the room.
+pub fn put<const N: usize>(text: &mut ArrayVec<u8, N>, n: u64)
+    requires { length text.old.items + length (decimal n) ≤ N }
+    ensures items { text.new.items ≡ text.old.items ++ decimal n }
+    ensures len { length text.new.items ≡ length text.old.items + length (decimal n) }
 {
-    if n < 10 {
-        text[at] = digit(n);
-        return at + 1;
-    }
-    let last = put(text, at, n / 10);
-    text[last] = digit(n % 10);
-    last + 1
+    texts::put(text, &digits(n));
 }
 
 // A space, and a number.
-pub fn put_spaced(text: &mut [u8], at: usize, n: u64) -> usize
-    requires { at + length (space ∷ decimal n) ≤ length text.old }
-    ensures { Puts (space ∷ decimal n) at text.old text.new result }
+pub fn put_spaced<const N: usize>(text: &mut ArrayVec<u8, N>, n: u64)
+    requires { length text.old.items + length (space ∷ decimal n) ≤ N }
+    ensures items { text.new.items ≡ text.old.items ++ space ∷ decimal n }
+    ensures len { length text.new.items ≡ length text.old.items + length (space ∷ decimal n) }
 {
-    let next = texts::put_byte(text, at, b' ');
-    put(text, next, n)
+    text.push(b' ');
+    put(text, n);
 }
 
-// The line of a refusal, at the start of the text.
-pub fn put_fault(text: &mut [u8], number: u8, offset: usize) -> usize
-    requires { length (fault_text number offset) ≤ length text.old }
-    ensures { Puts (fault_text number offset) 0 text.old text.new result }
+// The line of a refusal.
+#[tactic(auto, using(crate::proofs::Fault::fault_length, crate::proofs::Fault::fault_put))]
+pub fn put_fault<const N: usize>(text: &mut ArrayVec<u8, N>, number: u8, offset: usize)
+    requires { length text.old.items + length (fault_text number offset) ≤ N }
+    ensures items { text.new.items ≡ text.old.items ++ fault_text number offset }
+    ensures len { length text.new.items ≡ length text.old.items + length (fault_text number offset) }
 {
-    texts::copy(b"refused", 7, text);
-    let answer = put_spaced(text, 7, number as u64);
-    let gap = texts::put_byte(text, answer, b' ');
-    let a = texts::put_byte(text, gap, b'a');
-    let t = texts::put_byte(text, a, b't');
-    let place = put_spaced(text, t, offset as u64);
-    texts::put_byte(text, place, b'\n')
+    texts::put(text, b"refused ");
+    put(text, u64::from(number));
+    texts::put(text, b" at ");
+    put(text, offset as u64);
+    text.push(b'\n');
 }

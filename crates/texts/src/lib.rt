@@ -9,7 +9,8 @@ use arrayvec::ArrayVec;
 // Puts a piece behind a text. Whoever calls has made sure of the room.
 pub fn put<const N: usize>(text: &mut ArrayVec<u8, N>, piece: &[u8])
     requires { length text.old.items + length piece.now ≤ N }
-    ensures { text.new.items ≡ text.old.items ++ piece.now }
+    ensures items { text.new.items ≡ text.old.items ++ piece.now }
+    ensures len { length text.new.items ≡ length text.old.items + length piece.now }
 {
     // There is room, so this never fails.
     let _done = text.try_extend_from_slice(piece);
