@@ -11,7 +11,7 @@ use lib.Dec.{eqb}
 use Rattle.laws.specs.Lists.{All}
 use Rattle.laws.specs.Answering.{Refusal, Answers}
 use Rattle.laws.proofs.Answering.{AllLater, answers_same}
-use Rattle.dispatcher.specs.Answers.{Answer, number_of, place_of, unused_numbers}
+use Rattle.dispatcher.specs.Answers.{Answer, refusal_number, number_of, place_of, unused_numbers}
 use Rattle.dispatcher.specs.Reports.{still_of}
 use Rattle.dispatcher.specs.Promise.{Answered, Promised}
 use Rattle.dispatcher.specs.Fresh.{fresh_refusals, Freshly}
@@ -60,12 +60,18 @@ answer_back (Err EventCount) = refl
 pub answer_is : {a b : Answer} → number_of a ≡ number_of b → place_of a ≡ place_of b → a ≡ b
 answer_is {a} {b} e p = sym (answer_back a) ∙ rw (e, p) (answer_back b)
 
+-- no refusal has the number of done
+pub refusal_positive : (r : Reason) → refusal_number r ≢ 0
+unfolding answer_of
+refusal_positive r z = let e = rw z at (answer_back (Err r)) in cc
+
 -- done, or refused for another reason than that the dispatcher is not sound
 pub number_same : {a b : Answer} → IsLater (number_of a) → number_of a ≡ number_of b → a ≡ b
 number_same {a} {b} l e = answer_is e (later_place a l ∙ sym (later_place b (rw (← e) l)))
 
 pub done_is : {a : Answer} → number_of a ≡ 0 → a ≡ Ok tt
-done_is {a} z = sym (number_same {a = Ok tt} {b = a} (omega arith) (sym z))
+done_is {a = Ok done} z = refl
+done_is {a = Err r} z = absurd (refusal_positive r z)
 
 -- an unused number belongs to none
 pub unused_never : (a : Answer) → All (λ n. number_of a ≢ n) unused_numbers
