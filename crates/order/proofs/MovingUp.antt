@@ -1,16 +1,18 @@
 -- A number leaves a list and the later ones move up: what stands where afterwards, that the others keep their order, and the list made
 -- place by place.
-use Prim.Native.Nat.{ℕ, zero, suc, ◌+◌, ◌≤◌, ◌<◌}
-use mathlib.Core.Path.{◌≡◌, refl, sym, ◌∙◌}
+use Prim.Native.Nat.{ℕ, zero, suc, ◌+◌, ◌-◌, ◌≤◌, ◌<◌}
+use mathlib.Core.Path.{◌≡◌, refl, sym, ap, ◌∙◌}
 use mathlib.Core.Logic.{◌≢◌, ◌⊎◌, inl, inr}
 use mathlib.Core.Bool.{true, false, cond}
 use mathlib.Core.List.{List, [], ◌∷◌, ◌++◌}
 use native.Mathlib.Decide.{ℕ_discrete, dec_lt}
 use native.Mathlib.Omega.{arith}
-use native.Mathlib.Numerals.{add-one}
-use lib.ListN.{length, get_or, set, length-set, length-append}
-use lib.Seq.{get_or-set_same, get_or-set_other, ext_get_or}
+use native.Mathlib.Numerals.{add-one, one-add}
+use lib.ListN.{length, get_or, set, length-append, take, drop}
+use lib.Seq.{ext_get_or, set-append_seam, drop-cons}
 use lib.Dec.{ltb}
+use borrow.Rule.Slice.PartMut.{put_mid}
+use Rattle.std.proofs.lemmas.List.{length-take, length-drop, take_all, drop_all, drop-drop, append_assoc}
 use borrow.Author.Tests.{ltb-true, ltb-false}
 use Rattle.laws.proofs.Testing.{eqb_true, eqb_false}
 use Rattle.laws.proofs.Deciding.{cases}
@@ -98,7 +100,7 @@ leave_before (a ∷ l) t k h = go (ℕ_discrete a t) k h (leave_before l t)
         → get_or (leave_order (a ∷ l) t) k none ≡ get_or (a ∷ l) k none
     go (yes e) k h f = let m : k < 0 = rw (eqb_true e) at h in absurd (omega arith)
     go (no n) zero h f = rw (eqb_false n)
-    go (no n) (suc i) h f = let m : suc i < suc (place_in l t) = rw (eqb_false n) at h in rw (eqb_false n) (f i (omega arith))
+    go (no n) (suc i) h f = let m : suc i < 1 + place_in l t = rw (eqb_false n) at h in rw (eqb_false n) (f i (omega arith))
 
 leave_after : (l : List ℕ) (t k : ℕ) → place_in l t ≤ k → get_or (leave_order l t) k none ≡ get_or l (suc k) none
 leave_after [] t k h = refl
@@ -107,8 +109,8 @@ leave_after (a ∷ l) t k h = go (ℕ_discrete a t) k h (leave_after l t)
     go : Dec (a ≡ t) → (k : ℕ) → place_in (a ∷ l) t ≤ k → ((i : ℕ) → place_in l t ≤ i → get_or (leave_order l t) i none ≡ get_or l (suc i) none)
         → get_or (leave_order (a ∷ l) t) k none ≡ get_or l k none
     go (yes e) k h f = rw (eqb_true e) (get_or_end l k none)
-    go (no n) zero h f = let m : suc (place_in l t) ≤ 0 = rw (eqb_false n) at h in absurd (omega arith)
-    go (no n) (suc i) h f = let m : suc (place_in l t) ≤ suc i = rw (eqb_false n) at h in rw (eqb_false n) (f i (omega arith))
+    go (no n) zero h f = let m : 1 + place_in l t ≤ 0 = rw (eqb_false n) at h in absurd (omega arith)
+    go (no n) (suc i) h f = let m : 1 + place_in l t ≤ suc i = rw (eqb_false n) at h in rw (eqb_false n) (f i (omega arith))
 
 pub leave_at : (l : List ℕ) (t k : ℕ) → get_or (leave_order l t) k none ≡ get_or l (came_from (place_in l t) k) none
 leave_at l t k = go (came_cases (place_in l t) k)
@@ -136,28 +138,33 @@ place_leave l t u n h = go (came_back (place_in l t) (place_in l u) apart)
         before : (i : ℕ) → i < j → get_or (leave_order l t) i none ≢ u
         before i b = rw (leave_at l t i) (before_place l u none (omega (arith, came_rises (place_in l t) b)))
 
--- ---- the list made place by place: the places below k are as they will be, the others as they were
+-- ---- the list made at once: what stands after the number is copied to the place before it, and the last place is unused
 
-pub record MovedUp (l : List ℕ) (t k : ℕ) (m : List ℕ) : Type 0 where
-  pub long : length m ≡ length l
-  pub from : place_in l t ≤ k
-  pub below : (j : ℕ) → j < k → get_or m j none ≡ get_or (leave_order l t) j none
-  pub above : (j : ℕ) → k ≤ j → get_or m j none ≡ get_or l j none
-
-pub moved_none : (l : List ℕ) (t : ℕ) {k : ℕ} → k ≡ place_in l t → MovedUp l t k l
-moved_none l t e = record { long = refl; from = omega arith; below = λ j b. sym (leave_before l t j (omega arith)); above = λ j b. refl }
-
-pub moved_one : {l : List ℕ} {t k : ℕ} {m : List ℕ} {v : ℕ} → MovedUp l t k m → k < length l → get_or l (k + 1) none ≡ v → MovedUp l t (k + 1) (set m k v)
-moved_one {l} {t} {k} {m} {v} h within e = record {
-  long = length-set m k v ∙ h.long;
-  from = omega (arith, h.from);
-  below = λ j b. go j b (ℕ_discrete j k);
-  above = λ j b. get_or-set_other m k j v none (λ q. omega (arith, q, b)) ∙ h.above j (omega arith);
-}
+leave_parts : (l : List ℕ) (t : ℕ) → place_in l t < length l → leave_order l t ≡ take (place_in l t) l ++ (drop (place_in l t + 1) l ++ (none ∷ []))
+leave_parts [] t h = absurd (omega arith)
+leave_parts (a ∷ l) t h = go (ℕ_discrete a t) h (leave_parts l t)
   where
-    go : (j : ℕ) → j < k + 1 → Dec (j ≡ k) → get_or (set m k v) j none ≡ get_or (leave_order l t) j none
-    go j b (yes q) = rw (q, get_or-set_same m k v none (rw h.long within), leave_after l t k h.from, ← add-one k) (sym e)
-    go j b (no n) = get_or-set_other m k j v none n ∙ h.below j (omega arith)
+    go : Dec (a ≡ t) → place_in (a ∷ l) t < suc (length l) → (place_in l t < length l → leave_order l t ≡ take (place_in l t) l ++ (drop (place_in l t + 1) l ++ (none ∷ [])))
+        → leave_order (a ∷ l) t ≡ take (place_in (a ∷ l) t) (a ∷ l) ++ (drop (place_in (a ∷ l) t + 1) (a ∷ l) ++ (none ∷ []))
+    go (yes e) h f = rw (eqb_true e)
+    go (no n) h f = let m : 1 + place_in l t < suc (length l) = rw (eqb_false n) at h in rw (eqb_false n, one-add (place_in l t), add-one (suc (place_in l t)), f (omega arith), add-one (place_in l t))
 
-pub moved_all : {l : List ℕ} {t k : ℕ} {m : List ℕ} → MovedUp l t k m → length l ≤ k → m ≡ leave_order l t
-moved_all {l} {t} {k} {m} h end = ext_get_or none m (leave_order l t) (h.long ∙ sym (length_leave l t)) (λ j b. h.below j (omega (arith, h.long)))
+pub moved : (l m : List ℕ) (t : ℕ) {n p : ℕ} → place_in l t ≡ p → p ≤ n → length l ≡ n + 1 → m ≡ take ((n + 1) - (p + 1)) (drop (p + 1) l) → set (put_mid p (n - p) l m) n none ≡ leave_order l t
+moved l m t {n} {p} at within long copied =
+    rw (leave_parts l t (omega arith), at, ← later, end, ← append_assoc (take p l) m (get_or l n 0 ∷ []), ← append_assoc (take p l) m (none ∷ []), ← here) (set-append_seam (take p l ++ m) _ [] none)
+  where
+    later : m ≡ drop (p + 1) l
+    later = copied ∙ take_all _ _ (simp length-drop (omega arith))
+
+    fill : p + (n - p) ≡ n
+    fill = omega arith
+
+    end : drop (n - p) (drop p l) ≡ get_or l n 0 ∷ []
+    end = rw (drop-drop (n - p) p l, fill, drop-cons l n 0 (omega arith), drop_all (suc n) l (omega arith)) refl
+
+    here : length (take p l ++ m) ≡ n
+    here = simp (length-append, length-take, ap length later, length-drop) (omega arith)
+
+-- no place holds it, and the list stays
+pub stays : (l : List ℕ) (t : ℕ) → length l ≤ place_in l t → l ≡ leave_order l t
+stays l t out = ext_get_or none l (leave_order l t) (sym (length_leave l t)) (λ k b. sym (leave_before l t k (omega arith)))

@@ -1,13 +1,18 @@
 -- Where a number stands in a list: its place, what a change of one place does to it, and lists in which no two places hold the same.
 use Prim.Native.Nat.{ℕ, zero, suc, ◌≤◌, ◌<◌}
-use mathlib.Core.Path.{◌≡◌, refl, sym}
+use mathlib.Core.Path.{◌≡◌, sym, ◌∙◌}
 use mathlib.Core.Logic.{◌≢◌, inl, inr}
 use mathlib.Core.List.{List, [], ◌∷◌}
-use native.Mathlib.Nat.{not-suc-le-zero}
-use native.Mathlib.Decide.{ℕ_discrete, dec_lt}
+use native.Mathlib.Decide.{dec_lt}
 use native.Mathlib.Omega.{arith}
 use lib.ListN.{length, get_or, set, length-set}
 use lib.Seq.{get_or-set_same, get_or-set_other}
+use lib.Dec.{eqb}
+use borrow.Author.Tests.{eqb-true, eqb-false, lt-ltb}
+use Rattle.std.specs.Prelude.{◌==◌, Some, None, position}
+use Rattle.std.proofs.lemmas.List.Quantifiers.{position-Some}
+use Rattle.std.proofs.lemmas.List.Folds.{position_or_len-set}
+use Rattle.std.proofs.lemmas.List.Sums.{prefix_len-le-length, passes_at_first, fails_before_first, position_or_len_is}
 use Rattle.laws.specs.Lists.{In, Distinct}
 use Rattle.laws.proofs.Testing.{eqb_true, eqb_false}
 use Rattle.order.specs.ComesBefore.{place_in}
@@ -15,29 +20,13 @@ use Rattle.order.specs.ComesBefore.{place_in}
 -- ---- the place: the first that holds the number
 
 pub place_le : (l : List ℕ) (t : ℕ) → place_in l t ≤ length l
-place_le [] t = omega arith
-place_le (a ∷ l) t = go (ℕ_discrete a t) (place_le l t)
-  where
-    go : Dec (a ≡ t) → place_in l t ≤ length l → place_in (a ∷ l) t ≤ suc (length l)
-    go (yes e) h = rw (eqb_true e) (omega arith)
-    go (no n) h = rw (eqb_false n) (omega arith)
+place_le l t = prefix_len-le-length _ l
 
 pub place_holds : (l : List ℕ) (t z : ℕ) → place_in l t < length l → get_or l (place_in l t) z ≡ t
-place_holds [] t z h = absurd (not-suc-le-zero h)
-place_holds (a ∷ l) t z h = go (ℕ_discrete a t) (place_holds l t z) h
-  where
-    go : Dec (a ≡ t) → (place_in l t < length l → get_or l (place_in l t) z ≡ t) → place_in (a ∷ l) t < suc (length l) → get_or (a ∷ l) (place_in (a ∷ l) t) z ≡ t
-    go (yes e) f k = rw (eqb_true e) e
-    go (no n) f k = let m : suc (place_in l t) < suc (length l) = rw (eqb_false n) at k in rw (eqb_false n) (f (omega arith))
+place_holds l t z h = eqb-true _ _ (passes_at_first (λ a. eqb a t) l z h)
 
 pub before_place : (l : List ℕ) (t z : ℕ) {j : ℕ} → j < place_in l t → get_or l j z ≢ t
-before_place [] t z h = absurd (not-suc-le-zero h)
-before_place (a ∷ l) t z {j} h = go (ℕ_discrete a t) j h (λ i. before_place l t z {j = i})
-  where
-    go : Dec (a ≡ t) → (j : ℕ) → j < place_in (a ∷ l) t → ((i : ℕ) → i < place_in l t → get_or l i z ≢ t) → get_or (a ∷ l) j z ≢ t
-    go (yes e) j k f = let m : j < 0 = rw (eqb_true e) at k in absurd (omega arith)
-    go (no n) zero k f = n
-    go (no n) (suc i) k f = let m : suc i < suc (place_in l t) = rw (eqb_false n) at k in f i (omega arith)
+before_place l t z {j} h = eqb-false _ _ (fails_before_first (λ a. eqb a t) l j z h)
 
 -- a place that holds the number is not before it
 pub place_most : (l : List ℕ) (t z : ℕ) {k : ℕ} → get_or l k z ≡ t → place_in l t ≤ k
@@ -48,25 +37,22 @@ place_most l t z {k} h = go (dec_lt k (place_in l t))
     go (no b) = omega arith
 
 pub place_is : (l : List ℕ) (t z : ℕ) {k : ℕ} → k < length l → get_or l k z ≡ t → ((j : ℕ) → j < k → get_or l j z ≢ t) → place_in l t ≡ k
-place_is l t z {k} within h before = go (dec_lt (place_in l t) k) (place_most l t z h)
-  where
-    go : Dec (place_in l t < k) → place_in l t ≤ k → place_in l t ≡ k
-    go (yes b) m = absurd (before (place_in l t) b (place_holds l t z (omega arith)))
-    go (no b) m = omega arith
+place_is l t z {k} within h before = position_or_len_is (λ a. eqb a t) l k z (omega arith) (λ j b. eqb_false (before j b)) (λ b. eqb_true h)
 
-pub place_none : (l : List ℕ) (t z : ℕ) → ((j : ℕ) → j < length l → get_or l j z ≢ t) → place_in l t ≡ length l
-place_none l t z nowhere = go (dec_lt (place_in l t) (length l)) (place_le l t)
+pub place_some : (l : List ℕ) (t : ℕ) {k : ℕ} → position (λ a. a == t) l ≡ Some k → (place_in l t ≡ k) × (k < length l)
+place_some l t {k} e = let s = position-Some (λ a. a == t) l k 0 e in (place_is l t 0 s.0 (eqb-true _ _ s.1) (λ j b. eqb-false _ _ (s.2 j b)), s.0)
+
+pub place_none : (l : List ℕ) (t : ℕ) → position (λ a. a == t) l ≡ None → length l ≤ place_in l t
+place_none l t e = go (dec_lt (place_in l t) (length l))
   where
-    go : Dec (place_in l t < length l) → place_in l t ≤ length l → place_in l t ≡ length l
-    go (yes b) m = absurd (nowhere (place_in l t) b (place_holds l t z b))
-    go (no b) m = omega arith
+    go : Dec (place_in l t < length l) → length l ≤ place_in l t
+    go (yes b) = let n = rw lt-ltb at e in cc
+    go (no b) = omega arith
 
 -- ---- one place gets another number
 
 pub place_set_other : (l : List ℕ) (k v t z : ℕ) → v ≢ t → get_or l k z ≢ t → place_in (set l k v) t ≡ place_in l t
-place_set_other [] k v t z n m = refl
-place_set_other (a ∷ l) zero v t z n m = rw (eqb_false n, eqb_false m)
-place_set_other (a ∷ l) (suc k) v t z n m = rw (place_set_other l k v t z n m)
+place_set_other l k v t z n m = position_or_len-set (λ a. eqb a t) l k v z (eqb_false n ∙ sym (eqb_false m))
 
 pub place_set_here : (l : List ℕ) (k v z : ℕ) → k < length l → ((j : ℕ) → j < k → get_or l j z ≢ v) → place_in (set l k v) v ≡ k
 place_set_here l k v z within before =

@@ -1,12 +1,12 @@
 -- Document 01, "Comes before": who of two ready tasks comes before the other.
-use Rattle.std.specs.Prelude.{ℕ, suc, ◌<◌, ◌≡◌, ◌⊎◌, cond, List, [], ◌∷◌, eqb}
+use Rattle.std.specs.Prelude.{ℕ, ◌<◌, ◌≡◌, ◌⊎◌, List, eqb}
+use Rattle.std.specs.List.{position_or_len}
 use Rattle.dispatcher.specs.Slots.{task_at}
 use Rattle.dispatcher.specs.declared.Dispatcher.{Dispatcher}
 
 -- the place of t in a list: the first at which it stands, the list's length where it does not
 abbrev pub place_in : List ℕ → ℕ → ℕ
-place_in [] t = 0
-place_in (a ∷ l) t = let later = suc (place_in l t) in cond (eqb a t) 0 later
+place_in l t = position_or_len (λ a. eqb a t) l
 
 abbrev pub priority_of : Dispatcher → ℕ → ℕ
 priority_of d t = (task_at d t).priority

@@ -1,9 +1,8 @@
 // The wake order: the first place of each slot in it, and a slot that joins it or leaves it.
 #![tactic(auto)]
 
-ghost use Rattle.std.specs.Prelude.{◌≡◌};
+ghost use Rattle.std.specs.Prelude.{◌≡◌, ◌==◌, position};
 ghost use Rattle.order.specs.Places.{FirstPlaces};
-ghost use Rattle.order.specs.ComesBefore.{place_in};
 ghost use Rattle.order.specs.Changes.{join_order, leave_order};
 
 use dispatcher::Dispatcher;
@@ -14,13 +13,9 @@ pub fn first_places(list: &[u16]) -> [u16; Dispatcher::SLOTS]
     ensures { FirstPlaces list.now result }
 {
     let mut places = [Dispatcher::NONE; Dispatcher::SLOTS];
-    let mut i = list.len();
-    if Dispatcher::SLOTS < i {
-        i = Dispatcher::SLOTS;
-    }
-    while 0 < i {
-        i -= 1;
-        let slot = list[i] as usize;
+    let seen = &list[..list.len().min(Dispatcher::SLOTS)];
+    for (i, slot) in seen.iter().enumerate().rev() {
+        let slot = usize::from(*slot);
         if slot < Dispatcher::SLOTS {
             places[slot] = i as u16;
         }
@@ -28,18 +23,11 @@ pub fn first_places(list: &[u16]) -> [u16; Dispatcher::SLOTS]
     places
 }
 
-// The first place of the list that holds the slot, or its length.
-fn place_in(list: &[u16], slot: u16) -> usize
-    ensures { result ≡ place_in list.now slot }
+// The first place that holds the slot.
+fn place_in(order: &[u16; Dispatcher::SLOTS], slot: u16) -> Option<usize>
+    ensures { result ≡ position (λ held. held == slot) order.now }
 {
-    let mut k: usize = 0;
-    while k < list.len() {
-        if list[k] == slot {
-            return k;
-        }
-        k += 1;
-    }
-    k
+    order.iter().position(|held| *held == slot)
 }
 
 // The slot stands at the first unused place; where there is none, the order stays.
@@ -47,8 +35,7 @@ pub fn join(order: [u16; Dispatcher::SLOTS], slot: u16) -> [u16; Dispatcher::SLO
     ensures { result ≡ join_order order slot }
 {
     let mut next = order;
-    let place = place_in(&order, Dispatcher::NONE);
-    if place < Dispatcher::SLOTS {
+    if let Some(place) = place_in(&order, Dispatcher::NONE) {
         next[place] = slot;
     }
     next
@@ -58,15 +45,10 @@ pub fn join(order: [u16; Dispatcher::SLOTS], slot: u16) -> [u16; Dispatcher::SLO
 pub fn leave(order: [u16; Dispatcher::SLOTS], slot: u16) -> [u16; Dispatcher::SLOTS]
     ensures { result ≡ leave_order order slot }
 {
-    let mut k = place_in(&order, slot);
-    if Dispatcher::SLOTS <= k {
-        return order;
-    }
     let mut next = order;
-    while k + 1 < Dispatcher::SLOTS {
-        next[k] = order[k + 1];
-        k += 1;
+    if let Some(place) = place_in(&order, slot) {
+        next[place..Dispatcher::SLOTS - 1].copy_from_slice(&order[place + 1..]);
+        next[Dispatcher::SLOTS - 1] = Dispatcher::NONE;
     }
-    next[k] = Dispatcher::NONE;
     next
 }
