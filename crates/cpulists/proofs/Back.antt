@@ -6,6 +6,7 @@ use mathlib.Core.List.{List, [], ◌∷◌, ◌++◌, map}
 use native.Mathlib.Decide.{dec_lt}
 use native.Mathlib.Omega.{arith}
 use lib.ListN.{length, drop}
+use Rattle.std.specs.Prelude.{Ok}
 use Rattle.laws.specs.Lists.{All, Any}
 use Rattle.masks.specs.Masks.{NamesMissing}
 use Rattle.decimals.specs.Decimal.{value}
@@ -13,9 +14,7 @@ use Rattle.texts.specs.Joined.{comma}
 use Rattle.cpusets.specs.Characters.{character, IsDigit}
 use Rattle.cpusets.specs.Faults.{Faultless}
 use Rattle.cpusets.specs.Writing.{Stands, WritesText}
-use Rattle.cpusets.specs.declared.Reading.{Reading}
-use Rattle.cpusets.specs.declared.Reading.TheVariants.{Cores}
-use Rattle.cpusets.specs.declared.Written.{Written}
+use Rattle.cpusets.specs.Answers.{Reading, Written}
 use Rattle.cpulists.specs.List.{Item, one, range, item_text, IsItem, list_text, last_of, Holds, MeansList, run_item, ListOf}
 use Rattle.cpulists.specs.Faults.{NumberAt, list_faults}
 use Rattle.cpulists.specs.Promise.{ReadsList, WritesList}
@@ -24,8 +23,8 @@ use Rattle.cpulists.proofs.Runs.{list_text_same}
 use Rattle.cpulists.proofs.Written.{list_of_items, list_of_legal}
 use Rattle.cpulists.proofs.Same.{list_reads_same}
 
-pub list_read_back : {n s : ℕ} (t : List ℕ) (r : Reading) → (NamesMissing n s → ⊥) → ListOf s t → ReadsList n t r → r ≡ Cores s
-list_read_back {n} {s} t r none w h = list_reads_same n t r (Cores s) h (faultless (map run_item w.runs) (list_of_legal w none) w.is, list_of_items w)
+pub list_read_back : {n s : ℕ} (t : List ℕ) (r : Reading) → (NamesMissing n s → ⊥) → ListOf s t → ReadsList n t r → r ≡ Ok s
+list_read_back {n} {s} t r none w h = list_reads_same n t r (Ok s) h (faultless (map run_item w.runs) (list_of_legal w none) w.is, list_of_items w)
 
 -- ---- the set that a text without a fault means has no core at or above the limit
 
@@ -57,11 +56,11 @@ module _ {n : ℕ} {t : List ℕ} (f : Faultless (list_faults n t)) where
   faultless_below m h = omega (arith, h.missing, list_below m.items m.each m.is h.core ((m.cores h.core).yes h.named))
 
 -- writing what was read is never refused 19: it gives the one text of its set
-pub list_write_read : {n s : ℕ} {t before after : List ℕ} {r : Written} → ReadsList n t (Cores s) → WritesList n s before after r → WritesText (ListOf s) before after r
+pub list_write_read : {n s : ℕ} {t before after : List ℕ} {r : Written} → ReadsList n t (Ok s) → WritesList n s before after r → WritesText (ListOf s) before after r
 list_write_read h w = w.below (faultless_below h.0 h.1)
 
 -- and a text of our own comes back as it was
-pub list_write_back : {n s : ℕ} {t before after : List ℕ} {r : Written} → ReadsList n t (Cores s) → ListOf s t → WritesList n s before after r → length t ≤ length before → Stands t before after r
+pub list_write_back : {n s : ℕ} {t before after : List ℕ} {r : Written} → ReadsList n t (Ok s) → ListOf s t → WritesList n s before after r → length t ≤ length before → Stands t before after r
 list_write_back {s = s} {t} h l w room =
     let x = list_write_read h w in
     let e = list_text_same s x.text t x.is l in

@@ -14,9 +14,12 @@ use Rattle.masks.specs.Masks.{has}
 use Rattle.masks.proofs.Bits.{has_zero}
 use Rattle.texts.specs.Joined.{comma}
 use Rattle.cpusets.specs.Characters.{character}
+use Rattle.cpusets.specs.Faults.{FirstFault}
 use Rattle.cpulists.specs.List.{Holds}
-use Rattle.cpulists.specs.Progress.{IsLegal, ReadTo, ReadAll, ItemAt, Spans}
-use Rattle.cpulists.proofs.Verdicts.{comma_list, whole_list}
+use Rattle.cpulists.specs.Faults.{list_faults}
+use Rattle.cpulists.specs.Progress.{IsLegal, ReadTo, ReadAll, ItemAt, Spans, WalksOn}
+use Rattle.cpulists.proofs.Verdicts.{comma_list, whole_list, no_item}
+use Rattle.cpulists.proofs.Pieces.{item_further}
 
 none_held : (c : ℕ) → Decides (Any (Holds c) []) (has 0 c)
 none_held c = rw (has_zero c) (decides_false (λ x. x))
@@ -51,8 +54,20 @@ module _ {n : ℕ} {t : List ℕ} {at set first last end with : ℕ} (R : ReadTo
   legal : All (IsLegal n) (R.opens.items ++ (I.item ∷ []))
   legal = all_append (IsLegal n) R.opens.items (I.item ∷ []) R.opens.legal (I.legal, tt)
 
-  pub read_more : character t end ≡ comma → end < length t → ReadTo n t (end + 1) with
+  read_more : character t end ≡ comma → end < length t → ReadTo n t (end + 1) with
   read_more e l = record { opens = record { items = R.opens.items ++ (I.item ∷ []); legal = legal; is = comma_list R.opens I e l; within = omega arith }; cores = held }
 
-  pub read_whole : end ≡ length t → ReadAll n t with
+  read_whole : end ≡ length t → ReadAll n t with
   read_whole e = record { items = R.opens.items ++ (I.item ∷ []); legal = legal; is = whole_list R.opens I e; cores = held }
+
+  -- ---- what follows it
+
+  pub walk_end : end ≡ length t → WalksOn n t at (record { place = end; set = with })
+  walk_end e = record { further = item_further I; to = λ l. absurd (omega arith); all = λ _. (e, read_whole e) }
+
+  pub walk_comma : character t end ≡ comma → end + 1 < length t → WalksOn n t at (record { place = end + 1; set = with })
+  walk_comma e l = record { further = omega (arith, item_further I); to = λ _. read_more e (omega arith); all = λ k. absurd (omega arith) }
+
+  -- the text ends after a comma
+  pub ends_open : character t end ≡ comma → end + 1 ≡ length t → FirstFault (list_faults n t) 17 (end + 1)
+  ends_open e l = no_item (read_more e (omega arith)).opens l (omega arith)

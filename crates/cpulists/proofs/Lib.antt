@@ -6,7 +6,7 @@ pub mod Passing
 pub mod Verdicts
 pub mod Pieces
 pub mod Gathering
-pub mod Seeking
+pub mod Spanning
 pub mod RunText
 pub mod Ascending
 pub mod Written

@@ -6,20 +6,16 @@ use mathlib.Core.Bool.{true, false}
 use mathlib.Core.List.{List, [], ◌∷◌, ◌++◌, map, append_assoc, append-nil}
 use native.Mathlib.Decide.{ℕ_discrete, dec_lt}
 use native.Mathlib.Omega.{arith}
-use lib.ListN.{length, take, length-append}
-use lib.Seq.{length-take-le}
+use lib.ListN.{length, length-append}
 use Rattle.laws.specs.Lists.{Any}
 use Rattle.laws.proofs.Deciding.{clash}
 use Rattle.laws.proofs.Lists.{any_append, any_left, any_right}
 use Rattle.masks.specs.Masks.{has}
 use Rattle.masks.proofs.Bits.{has_beyond}
-use Rattle.texts.specs.Put.{Puts}
 use Rattle.texts.specs.Joined.{comma, each_after}
-use Rattle.texts.proofs.Putting.{puts_length, puts_taken}
 use Rattle.cpusets.specs.Limit.{set_bits}
-use Rattle.cpusets.specs.Writing.{Made}
 use Rattle.cpulists.specs.List.{item_text, list_text, Run, Covers, Ascending, run_item, ListOf}
-use Rattle.cpulists.specs.Progress.{NextIs, run_text, list_room}
+use Rattle.cpulists.specs.Progress.{run_text, list_room}
 use Rattle.cpulists.proofs.Apart.{some_text}
 use Rattle.cpulists.proofs.Ascending.{ascending_from}
 use Rattle.cpulists.proofs.Written.{run_item_lem}
@@ -40,107 +36,109 @@ text_end at (q ∷ rs) r e =
 
 -- ---- how far the list is written
 
--- the runs of the cores below `first` stand in the first `at` bytes; the next run begins there, unless no core is left
-pub record Listed (s : ℕ) (bytes : List ℕ) (at first : ℕ) : Type 0 where
+-- the cores up to `core` are passed: the runs of those below `first` are written, and the set has each from there on
+pub record Listed (s : ℕ) (text : List ℕ) (first core : ℕ) : Type 0 where
   pub runs : List Run
-  pub ascending : Ascending 0 runs
-  pub further : first < set_bits → (rest : List Run) → Ascending first rest → Ascending 0 (runs ++ rest)
+  pub further : (rest : List Run) → Ascending first rest → Ascending 0 (runs ++ rest)
   pub held : (c : ℕ) → Any (Covers c) runs → (has s c ≡ true) × (c < first)
   pub covered : (c : ℕ) → has s c ≡ true → c < first → Any (Covers c) runs
-  pub is : take at bytes ≡ list_text (map run_item runs)
-  pub short : at ≤ 3 * first
-  pub within : first ≤ set_bits
-  pub found : first < set_bits → has s first ≡ true
-  pub room : list_room ≤ length bytes
+  pub is : text ≡ list_text (map run_item runs)
+  pub short : length text ≤ 3 * first
+  pub within : first ≤ core
+  pub inside : (c : ℕ) → first ≤ c → c < core → has s c ≡ true
 
-pub listed_start : {s first : ℕ} {bytes : List ℕ} → list_room ≤ length bytes → NextIs s 0 true first → Listed s bytes 0 first
-listed_start room n = record {
+pub listed_start : {s : ℕ} → Listed s [] 0 0
+listed_start = record {
   runs = [];
-  ascending = tt;
-  further = λ _ rest a. ascending_from 0 _ rest (omega arith) a;
+  further = λ rest a. a;
   held = λ c i. absurd i;
-  covered = λ c y l. clash y (n.passed c (omega arith) l);
+  covered = λ c y l. absurd (omega arith);
   is = refl;
   short = omega arith;
-  within = n.within;
-  found = n.found;
-  room = room;
+  within = omega arith;
+  inside = λ c l b. absurd (omega arith);
 }
 
-module _ {s at first end : ℕ} {x : List ℕ} (w : Listed s x at first) (more : first < set_bits) (n : NextIs s first false end) where
-  -- the run has a core
-  pub run_some : first < end
-  run_some = go (ℕ_discrete first end)
+module _ {s first core : ℕ} {text : List ℕ} (w : Listed s text first core) where
+  -- the set has the core
+  pub listed_on : has s core ≡ true → Listed s text first (core + 1)
+  listed_on y = record {
+    runs = w.runs;
+    further = w.further;
+    held = w.held;
+    covered = w.covered;
+    is = w.is;
+    short = w.short;
+    within = omega (arith, w.within);
+    inside = λ c l b. at c l b (ℕ_discrete c core);
+  }
     where
-      go : Dec (first ≡ end) → first < end
-      go (no d) = omega (arith, n.from_on)
-      go (yes e) = clash (w.found more) (rw e (n.found (omega arith)))
+      at : (c : ℕ) → first ≤ c → c < core + 1 → Dec (c ≡ core) → has s c ≡ true
+      at c l b (yes e) = rw e y
+      at c l b (no n) = w.inside c l (omega arith)
 
-  pub listed_room : at + length (run_text at (record { first = first; last = end - 1 })) ≤ length x
-  listed_room = omega (arith, run_some, w.short, w.room, n.within, run_length at first (end - 1) (omega (arith, run_some)) (omega (arith, n.within, run_some)))
-
-  module _ {r f : ℕ} {y : List ℕ} (p : Puts (run_text at (record { first = first; last = end - 1 })) at x y r) (m : NextIs s end true f) where
-    run : Run
-    run = record { first = first; last = end - 1 }
-
-    -- a core that is in no run stands behind it
-    gap : f < set_bits → end < f
-    gap l = go (ℕ_discrete end f)
-      where
-        go : Dec (end ≡ f) → end < f
-        go (no d) = omega (arith, m.from_on)
-        go (yes e) = clash (m.found l) (rw (← e) (n.found (omega arith)))
-
-    held_more : (c : ℕ) → Any (Covers c) (w.runs ++ (run ∷ [])) → (has s c ≡ true) × (c < f)
-    unfolding run
-    held_more c i = go (any_append (Covers c) w.runs (run ∷ []) i)
-      where
-        go : Any (Covers c) w.runs ⊎ Any (Covers c) (run ∷ []) → (has s c ≡ true) × (c < f)
-        go (inl j) = ((w.held c j).0, omega (arith, (w.held c j).1, run_some, m.from_on))
-        go (inr (inr x)) = absurd x
-        go (inr (inl h)) = (n.passed c h.0 (omega (arith, h.1, run_some)), omega (arith, h.1, run_some, m.from_on))
-
-    covered_more : (c : ℕ) → has s c ≡ true → c < f → Any (Covers c) (w.runs ++ (run ∷ []))
-    unfolding run
-    covered_more c y l = go (dec_lt c first) (dec_lt c end)
-      where
-        go : Dec (c < first) → Dec (c < end) → Any (Covers c) (w.runs ++ (run ∷ []))
-        go (yes a) b = any_left (Covers c) w.runs (run ∷ []) (w.covered c y a)
-        go (no a) (yes b) = any_right (Covers c) w.runs (run ∷ []) (inl (omega arith, omega arith))
-        go (no a) (no b) = clash y (m.passed c (omega arith) l)
-
-    pub listed_more : Listed s y r f
-    unfolding run
-    listed_more = record {
-      runs = w.runs ++ (run ∷ []);
-      ascending = w.further more (run ∷ []) (omega arith, omega (arith, run_some), tt);
-      further = λ l rest a. rw (append_assoc w.runs (run ∷ []) rest) (w.further more (run ∷ rest) (omega arith, omega (arith, run_some), ascending_from _ f rest (omega (arith, run_some, gap l)) a));
-      held = held_more;
-      covered = covered_more;
-      is = puts_taken p listed_room ∙ ap (λ (t : List ℕ). t ++ run_text at run) w.is ∙ sym (text_end at w.runs run place);
-      short = omega (arith, p.next, w.short, run_length at first (end - 1) (omega (arith, run_some)) (omega (arith, n.within, run_some)), m.from_on, run_some);
-      within = m.within;
-      found = m.found;
-      room = omega (arith, w.room, puts_length p listed_room);
+  module _ (n : has s core ≡ false) where
+    -- no run ends before the core
+    pub listed_past : first ≡ core → Listed s text (core + 1) (core + 1)
+    listed_past e = record {
+      runs = w.runs;
+      further = λ rest a. w.further rest (ascending_from _ _ rest (omega arith) a);
+      held = λ c i. ((w.held c i).0, omega (arith, (w.held c i).1));
+      covered = λ c y l. at c y l (ℕ_discrete c core);
+      is = w.is;
+      short = omega (arith, w.short);
+      within = omega arith;
+      inside = λ c l b. absurd (omega arith);
     }
       where
-        place : at ≡ length (list_text (map run_item w.runs))
-        place = sym (length-take-le at x (omega (arith, listed_room))) ∙ ap length w.is
+        at : (c : ℕ) → has s c ≡ true → c < core + 1 → Dec (c ≡ core) → Any (Covers c) w.runs
+        at c y l (yes q) = clash y (rw q n)
+        at c y l (no q) = w.covered c y (omega arith)
 
-pub listed_end : {s at first : ℕ} {x : List ℕ} → s < 2 ^ set_bits → Listed s x at first → set_bits ≤ first → Made (ListOf s) x at
-listed_end {s} {at} {first} {x} fits w all = record {
-  is = record {
-    runs = w.runs;
-    ascending = w.ascending;
-    cores = λ c. record { yes = λ y. w.covered c y (below c y); no = λ n i. clash (w.held c i).0 n };
-    is = w.is;
-  };
-  within = omega (arith, w.short, w.within, w.room);
+    module _ (l : first < core) (b : core ≤ set_bits) where
+      run : Run
+      run = record { first = first; last = core - 1 }
+
+      pub run_room : length text + length (run_text (length text) (record { first = first; last = core - 1 })) ≤ list_room
+      run_room = omega (arith, w.short, run_length (length text) first (core - 1) (omega arith) (omega arith))
+
+      -- one does, and is written
+      pub listed_more : {new : List ℕ} → new ≡ text ++ run_text (length text) (record { first = first; last = core - 1 }) → Listed s new (core + 1) (core + 1)
+      unfolding run
+      listed_more e = record {
+        runs = w.runs ++ (run ∷ []);
+        further = λ rest a. rw (append_assoc w.runs (run ∷ []) rest) (w.further (run ∷ rest) (omega arith, omega arith, ascending_from _ _ rest (omega arith) a));
+        held = λ c i. held_more c (any_append (Covers c) w.runs (run ∷ []) i);
+        covered = λ c y k. covered_more c y k (dec_lt c first) (ℕ_discrete c core);
+        is = e ∙ ap (λ (t : List ℕ). t ++ run_text (length text) run) w.is ∙ sym (text_end (length text) w.runs run (ap length w.is));
+        short = omega (arith, ap length e, length-append text (run_text (length text) run), w.short, run_length (length text) first (core - 1) (omega arith) (omega arith));
+        within = omega arith;
+        inside = λ c k j. absurd (omega arith);
+      }
+        where
+          held_more : (c : ℕ) → Any (Covers c) w.runs ⊎ Any (Covers c) (run ∷ []) → (has s c ≡ true) × (c < core + 1)
+          held_more c (inl i) = ((w.held c i).0, omega (arith, (w.held c i).1))
+          held_more c (inr (inl h)) = (w.inside c h.0 (omega (arith, h.1)), omega (arith, h.1))
+          held_more c (inr (inr x)) = absurd x
+
+          covered_more : (c : ℕ) → has s c ≡ true → c < core + 1 → Dec (c < first) → Dec (c ≡ core) → Any (Covers c) (w.runs ++ (run ∷ []))
+          covered_more c y k (yes p) d = any_left (Covers c) w.runs (run ∷ []) (w.covered c y p)
+          covered_more c y k (no p) (yes q) = clash y (rw q n)
+          covered_more c y k (no p) (no q) = any_right (Covers c) w.runs (run ∷ []) (inl (omega arith, omega arith))
+
+-- no set has the core after the last
+pub listed_end : {s first core : ℕ} {text : List ℕ} → s < 2 ^ set_bits → Listed s text first core → set_bits < core → ListOf s text
+listed_end {s} {first} {core} fits w all = record {
+  runs = w.runs;
+  ascending = rw append-nil at (w.further [] tt);
+  cores = λ c. record { yes = λ y. w.covered c y (below c y (dec_lt c first)); no = λ n i. clash (w.held c i).0 n };
+  is = w.is;
 }
   where
-    below : (c : ℕ) → has s c ≡ true → c < first
-    below c y = go (dec_lt c first)
+    below : (c : ℕ) → has s c ≡ true → Dec (c < first) → c < first
+    below c y (yes l) = l
+    below c y (no l) = go (dec_lt c set_bits)
       where
-        go : Dec (c < first) → c < first
-        go (yes l) = l
-        go (no l) = clash y (has_beyond set_bits s c fits (omega arith))
+        go : Dec (c < set_bits) → c < first
+        go (no b) = clash y (has_beyond set_bits s c fits (omega arith))
+        go (yes b) = clash (w.inside set_bits (omega arith) all) (has_beyond set_bits s set_bits fits (omega arith))

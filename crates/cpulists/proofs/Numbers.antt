@@ -1,11 +1,11 @@
 -- Digits that are read one by one: they are a number's digits so far, and n stands for every value that is not below it.
-use Prim.Native.Nat.{ℕ, suc, ◌+◌, ◌-◌, ◌*◌, ◌≤◌, ◌<◌, min}
-use mathlib.Core.Path.{◌≡◌, refl, ◌∙◌}
+use Prim.Native.Nat.{ℕ, ◌+◌, ◌-◌, ◌*◌, ◌≤◌, ◌<◌, min}
+use mathlib.Core.Path.{◌≡◌, refl, ap, ◌∙◌}
 use mathlib.Core.List.{List, [], ◌∷◌, ◌++◌}
 use native.Mathlib.Omega.{arith}
 use native.Mathlib.Numerals.{add-one}
 use lib.ListN.{length, take, drop, length-append, length-drop}
-use lib.Seq.{take-suc, get_or-drop}
+use lib.Seq.{take-suc, take_all}
 use Rattle.laws.specs.Lists.{All}
 use Rattle.laws.proofs.Lists.{all_append, get_d_beyond}
 use Rattle.decimals.specs.Decimal.{value}
@@ -25,21 +25,27 @@ pub record SoFar (n : ℕ) (t : List ℕ) (at end v : ℕ) : Type 0 where
 pub none_yet : {n : ℕ} {t : List ℕ} {at : ℕ} → at ≤ length t → SoFar n t at at 0
 none_yet l = record { digits = []; is = refl; each = tt; end_told = omega arith; within = l; value_told = omega arith }
 
-pub one_more : {n : ℕ} {t : List ℕ} {at end v : ℕ} (c : ℕ) → SoFar n t at end v → end < length t → character t end ≡ c → IsDigit c → SoFar n t at (end + 1) (min (10 * v + (c - 48)) n)
-one_more {n} {t} {at} {end} {v} c s l e d = record {
-  digits = s.digits ++ (c ∷ []);
-  is = rw (length-append s.digits (c ∷ [])) (rw (add-one (length s.digits)) (longer));
-  each = all_append IsDigit s.digits (c ∷ []) s.each (d, tt);
-  end_told = omega (arith, s.end_told, length-append s.digits (c ∷ []));
-  within = omega arith;
-  value_told = rw (value_append 0 s.digits (c ∷ [])) (omega (arith, s.value_told));
+-- all that stands from a place on
+pub from_place : (at : ℕ) (t : List ℕ) → take (length t - at) (drop at t) ≡ drop at t
+from_place at t = take_all _ _ (omega (arith, length-drop at t))
+
+-- one digit more of what stands there
+pub one_more : {n v w : ℕ} {t s : List ℕ} (at k : ℕ) → s ≡ drop at t → SoFar n t at (at + k) v → k < length s → IsDigit (character s k) → w ≡ min (10 * v + (character s k - 48)) n
+    → SoFar n t at (at + (k + 1)) w
+one_more {n} {v} {w} {t} {s} at k q p l d e = record {
+  digits = p.digits ++ (character s k ∷ []);
+  is = rw (length-append p.digits (character s k ∷ []), add-one (length p.digits), ← q) (take-suc s (length p.digits) 0 room ∙ rw (q, p.is, told));
+  each = all_append IsDigit p.digits (character s k ∷ []) p.each (d, tt);
+  end_told = omega (arith, p.end_told, length-append p.digits (character s k ∷ []));
+  within = omega (arith, ap length q, length-drop at t);
+  value_told = e ∙ rw (value_append 0 p.digits (character s k ∷ [])) (omega (arith, p.value_told));
 }
   where
-    room : length s.digits < length (drop at t)
-    room = omega (arith, s.end_told, length-drop at t)
+    told : length p.digits ≡ k
+    told = omega (arith, p.end_told)
 
-    longer : take (suc (length s.digits)) (drop at t) ≡ s.digits ++ (c ∷ [])
-    longer = take-suc (drop at t) (length s.digits) 0 room ∙ rw (s.is, get_or-drop at t (length s.digits) 0, ← s.end_told, e)
+    room : length p.digits < length s
+    room = omega (arith, told)
 
 -- no digit follows
 pub all_read : {n : ℕ} {t : List ℕ} {at : ℕ} {r : Number} → SoFar n t at r.end r.value → (IsDigit (character t r.end) → ⊥) → ReadsNumber n t at r

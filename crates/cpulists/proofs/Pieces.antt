@@ -11,18 +11,14 @@ use lib.Seq.{take-append_seam, drop-cons, drop-drop}
 use Rattle.laws.proofs.Deciding.{clash}
 use Rattle.decimals.specs.Decimal.{value}
 use Rattle.texts.specs.Joined.{dash}
-use Rattle.cpusets.specs.Answers.{number_of}
 use Rattle.cpusets.specs.Characters.{character, IsDigit}
-use Rattle.cpusets.specs.Faults.{FirstFault}
-use Rattle.cpusets.specs.declared.Answer.{Answer}
 use Rattle.cpulists.specs.List.{IsNumber, Item, one, range}
-use Rattle.cpulists.specs.Faults.{NumberAt, list_faults}
-use Rattle.cpulists.specs.Progress.{ReadsNumber, HalfRead, SecondAt, ReadsSecond, ItemAt, ReadsPiece, Walks}
+use Rattle.cpulists.specs.Faults.{NumberAt}
+use Rattle.cpulists.specs.Progress.{ReadsNumber, Opens, Wants, NumberBelow, ItemAt}
 use Rattle.cpulists.specs.declared.Number.{Number}
-use Rattle.cpulists.specs.declared.Piece.{Piece}
-use Rattle.cpulists.specs.declared.Walk.{Walk}
 use Rattle.cpulists.proofs.Apart.{some_text}
 use Rattle.cpulists.proofs.Passing.{rest_split}
+use Rattle.cpulists.proofs.Verdicts.{HalfRead}
 
 -- ---- digits
 
@@ -46,65 +42,78 @@ module _ {n : ℕ} {t : List ℕ} {at : ℕ} {r : Number} (R : ReadsNumber n t a
   pub value_below : r.value < n → r.value ≡ value R.digits
   value_below l = omega (arith, R.value_told)
 
--- ---- a refusal is passed on
+-- ---- a number, where one has to begin
 
-module _ {n : ℕ} {t : List ℕ} {a : Answer} {o : ℕ} (z : number_of a ≢ 0) (f : FirstFault (list_faults n t) (number_of a) o) where
-  pub second_refused : {first at : ℕ} {r : Piece} → r.answer ≡ a → r.end ≡ o → ReadsSecond n t first at r
-  second_refused e q = record { good = λ y. absurd (z (sym (ap number_of e) ∙ y)); bad = λ _. rw (e, q) f }
+module _ {n : ℕ} {t : List ℕ} {at : ℕ} {r : Number} (W : Wants n t at) (R : ReadsNumber n t at r) (some : r.end ≢ at) where
+  -- digits there are a number
+  pub number_there : NumberAt t at R.digits
+  number_there = record { is = R.is; number = some_there R some; begins = W.begins; ends = R.ends }
 
-  pub piece_refused : {at : ℕ} {r : Piece} → r.answer ≡ a → r.end ≡ o → ReadsPiece n t at r
-  piece_refused e q = record { good = λ y. absurd (z (sym (ap number_of e) ∙ y)); bad = λ _. rw (e, q) f }
-
-  pub walk_refused : {at : ℕ} {r : Walk} → r.answer ≡ a → r.place ≡ o → Walks n t at r
-  walk_refused e q = record {
-    further = λ y. absurd (z (sym (ap number_of e) ∙ y));
-    to = λ y. absurd (z (sym (ap number_of e) ∙ y));
-    all = λ y. absurd (z (sym (ap number_of e) ∙ y));
-    bad = λ _. rw (e, q) f;
+  pub number_below : r.value < n → NumberBelow n t at r
+  number_below l = record {
+    digits = R.digits;
+    there = number_there;
+    end_told = R.end;
+    within = R.within;
+    value_told = value_below R l;
+    below = rw (value_below R l) at l;
   }
 
 -- ---- an item
 
-pub one_item : {n : ℕ} {t d : List ℕ} {at end v : ℕ} → NumberAt t at d → end ≡ at + length d → end ≤ length t → v ≡ value d → v < n → character t end ≢ dash → ItemAt n t at v v end
-one_item {t = t} {d} {at} a e w q l m = record {
-  item = one d;
-  legal = record { item = a.number; first_below = rw (← q) l; last_below = rw (← q) l; forward = omega arith };
-  is = a.is;
-  end_told = e;
-  within = w;
-  first_told = q;
-  last_told = q;
-  no_digit = rw e a.ends;
+pub one_item : {n : ℕ} {t : List ℕ} {at : ℕ} {r : Number} → NumberBelow n t at r → character t r.end ≢ dash → ItemAt n t at r.value r.value r.end
+one_item N m = record {
+  item = one N.digits;
+  legal = record { item = N.there.number; first_below = N.below; last_below = N.below; forward = omega arith };
+  is = N.there.is;
+  end_told = N.end_told;
+  within = N.within;
+  first_told = N.value_told;
+  last_told = N.value_told;
+  no_digit = rw N.end_told N.there.ends;
   no_dash = λ _ _. m;
 }
 
-pub range_item : {n : ℕ} {t : List ℕ} {first at : ℕ} {r : Piece} (H : HalfRead n t first at) → SecondAt n t first at r → ItemAt n t H.start r.first r.last r.end
-range_item {n} {t} {first} {at} {r} H S = record {
-  item = range H.digits S.digits;
-  legal = record { item = (H.there.number, S.there.number); first_below = rw (← H.told) H.below; last_below = S.below; forward = rw (← H.told) S.forward };
-  is = rw whole (take-append_seam (H.digits ++ (dash ∷ S.digits)) _);
-  end_told = omega (arith, S.end_told, H.next, length-append H.digits (dash ∷ S.digits));
-  within = S.within;
-  first_told = S.first_told ∙ H.told;
-  last_told = S.last_told;
-  no_digit = rw S.end_told S.there.ends;
+-- a range of which the first number and the dash are read
+pub half_read : {n : ℕ} {t : List ℕ} {at : ℕ} {r : Number} → Opens n t at → NumberBelow n t at r → r.end < length t → character t r.end ≡ dash → HalfRead n t at r.value (r.end + 1)
+half_read O N inside joint = record {
+  opens = O;
+  digits = N.digits;
+  there = N.there;
+  told = N.value_told;
+  below = omega (arith, N.value_told, N.below);
+  joint = rw (← N.end_told) joint;
+  next = omega (arith, N.end_told);
+  within = omega (arith, inside);
+}
+
+pub range_item : {n : ℕ} {t : List ℕ} {start first at : ℕ} {r : Number} (H : HalfRead n t start first at) (N : NumberBelow n t at r) → first ≤ r.value → ItemAt n t start first r.value r.end
+range_item {n} {t} {start} {first} {at} {r} H N forward = record {
+  item = range H.digits N.digits;
+  legal = record { item = (H.there.number, N.there.number); first_below = rw (← H.told) H.below; last_below = N.below; forward = omega (arith, H.told, N.value_told) };
+  is = rw whole (take-append_seam (H.digits ++ (dash ∷ N.digits)) _);
+  end_told = omega (arith, N.end_told, H.next, length-append H.digits (dash ∷ N.digits));
+  within = N.within;
+  first_told = H.told;
+  last_told = N.value_told;
+  no_digit = rw N.end_told N.there.ends;
   no_dash = λ d e. absurd (not_one d e);
 }
   where
-    whole : drop H.start t ≡ (H.digits ++ (dash ∷ S.digits)) ++ drop (at + length S.digits) t
+    whole : drop start t ≡ (H.digits ++ (dash ∷ N.digits)) ++ drop (at + length N.digits) t
     whole =
-        rest_split H.digits (drop H.start t) H.there.is
-        ∙ ap (λ (x : List ℕ). H.digits ++ x) (drop-drop (length H.digits) H.start t ∙ drop-cons t (H.start + length H.digits) 0 (omega (arith, H.within, H.next)) ∙ rw (H.joint, ← add-one (H.start + length H.digits), ← H.next) (ap (λ (x : List ℕ). dash ∷ x) second))
-        ∙ sym (append_assoc H.digits (dash ∷ S.digits) (drop (at + length S.digits) t))
+        rest_split H.digits (drop start t) H.there.is
+        ∙ ap (λ (x : List ℕ). H.digits ++ x) (drop-drop (length H.digits) start t ∙ drop-cons t (start + length H.digits) 0 (omega (arith, H.within, H.next)) ∙ rw (H.joint, ← add-one (start + length H.digits), ← H.next) (ap (λ (x : List ℕ). dash ∷ x) second))
+        ∙ sym (append_assoc H.digits (dash ∷ N.digits) (drop (at + length N.digits) t))
       where
-        second : drop at t ≡ S.digits ++ drop (at + length S.digits) t
-        second = rest_split S.digits (drop at t) S.there.is ∙ ap (λ (x : List ℕ). S.digits ++ x) (drop-drop (length S.digits) at t)
+        second : drop at t ≡ N.digits ++ drop (at + length N.digits) t
+        second = rest_split N.digits (drop at t) N.there.is ∙ ap (λ (x : List ℕ). N.digits ++ x) (drop-drop (length N.digits) at t)
 
     is_range : Item → Bool
     is_range (one d) = false
     is_range (range d e) = true
 
-    not_one : (d : List ℕ) → range H.digits S.digits ≡ one d → ⊥
+    not_one : (d : List ℕ) → range H.digits N.digits ≡ one d → ⊥
     not_one d e = clash {b = true} refl (ap is_range e)
 
 -- an item has a character

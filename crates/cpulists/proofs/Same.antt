@@ -4,8 +4,7 @@ use mathlib.Core.Path.{◌≡◌, sym, ◌∙◌}
 use mathlib.Core.List.{List}
 use Rattle.laws.proofs.Deciding.{decides_same}
 use Rattle.masks.proofs.Operators.{same_cores}
-use Rattle.cpusets.specs.declared.Reading.{Reading}
-use Rattle.cpusets.specs.declared.Written.{Written}
+use Rattle.cpusets.specs.Answers.{Reading, Written}
 use Rattle.cpusets.proofs.Same.{reads_same, writes_same}
 use Rattle.cpulists.specs.List.{MeansList}
 use Rattle.cpulists.specs.Faults.{list_faults}

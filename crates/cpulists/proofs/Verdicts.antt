@@ -18,7 +18,7 @@ use Rattle.cpusets.specs.Faults.{Begins, IsUnexpected, FirstFault}
 use Rattle.cpusets.proofs.Beginning.{begins_front, begins_part, expected, first_fault}
 use Rattle.cpulists.specs.List.{IsNumber, Item, one, range, item_text, IsItem, list_text, IsListText}
 use Rattle.cpulists.specs.Faults.{NumberAt, RunsBackward, IsAbove, list_faults}
-use Rattle.cpulists.specs.Progress.{followed, Opens, HalfRead, ItemAt}
+use Rattle.cpulists.specs.Progress.{followed, Opens, ItemAt, Wants}
 use Rattle.cpulists.proofs.Numbers.{past_end}
 use Rattle.cpulists.proofs.Places.{first_digit, Clear, not_above, backward_from}
 use Rattle.cpulists.proofs.Passing.{comma_number, dash_number, comma_forward, pass_first, pass_item, opens_clear, legal_items, rest_split}
@@ -124,20 +124,31 @@ module _ {n : ℕ} {t : List ℕ} {at : ℕ} (O : Opens n t at) where
   no_item e l =
       first_17 (opens_clear O).0 O.within (past_end t at (omega arith)) (record { before = begins_opens; here = inr (e, open_none t (omega arith) (inl (ap (walk wants) (sym (take_all at t (omega arith))) ∙ walk_opens))) })
 
-  -- digits there are a number
-  pub number_opens : (d : List ℕ) → take (length d) (drop at t) ≡ d → IsNumber d → (IsDigit (character t (at + length d)) → ⊥) → NumberAt t at d
-  number_opens d e h f = record { is = e; number = h; begins = comma_number (opens_clear O).1; ends = f }
-
   pub number_above : {d : List ℕ} → at < length t → NumberAt t at d → n ≤ value d → FirstFault (list_faults n t) 19 at
   number_above {d} l a v = first_19 (opens_clear O).0 l (begins_digit l (first_digit a)) (record { number = d; there = a; above = v }) (comma_forward (opens_clear O).1)
 
+  -- so that a number has to begin there
+  pub opens_wants : at < length t → Wants n t at
+  opens_wants l = record { within = O.within; begins = comma_number (opens_clear O).1; missing = no_number l; high = λ d. number_above l }
+
 -- ---- after a number and its dash
 
-module _ {n : ℕ} {t : List ℕ} {first at : ℕ} (H : HalfRead n t first at) where
+-- a range of which the first number and the dash are read
+pub record HalfRead (n : ℕ) (t : List ℕ) (start first at : ℕ) : Type 0 where
+  pub opens : Opens n t start
+  pub digits : List ℕ
+  pub there : NumberAt t start digits
+  pub told : first ≡ value digits
+  pub below : first < n
+  pub joint : character t (start + length digits) ≡ dash
+  pub next : at ≡ start + length digits + 1
+  pub within : at ≤ length t
+
+module _ {n : ℕ} {t : List ℕ} {start first at : ℕ} (H : HalfRead n t start first at) where
   half_take : take at t ≡ followed H.opens.items ++ (H.digits ++ (dash ∷ []))
   half_take =
-      ap (λ (k : ℕ). take k t) H.next ∙ take_more t (H.start + length H.digits) (omega (arith, H.within, H.next))
-      ∙ rw (take_on t H.digits H.start H.there.is, H.joint, H.opens.is) (append_assoc (followed H.opens.items) H.digits (dash ∷ []))
+      ap (λ (k : ℕ). take k t) H.next ∙ take_more t (start + length H.digits) (omega (arith, H.within, H.next))
+      ∙ rw (take_on t H.digits start H.there.is, H.joint, H.opens.is) (append_assoc (followed H.opens.items) H.digits (dash ∷ []))
 
   half_items : All IsItem H.opens.items
   half_items = legal_items n H.opens.items H.opens.legal
@@ -162,9 +173,6 @@ module _ {n : ℕ} {t : List ℕ} {first at : ℕ} (H : HalfRead n t first at) w
       go (yes l) = inl (l, none_begins t at joins walk_joins (wants_digit d).1 l)
       go (no l) = inr (omega (arith, H.within), open_none t (omega (arith, H.within, H.next)) (inr (ap (walk wants) (sym (take_all at t (omega arith))) ∙ walk_joins)))
 
-  pub number_second : (d : List ℕ) → take (length d) (drop at t) ≡ d → IsNumber d → (IsDigit (character t (at + length d)) → ⊥) → NumberAt t at d
-  number_second d e h f = record { is = e; number = h; begins = dash_number t (H.start + length H.digits) at H.joint H.next; ends = f }
-
   begins_second : {d : List ℕ} → NumberAt t at d → at < length t → Begins IsListText (take (at + 1) t)
   begins_second a l = rw (take_more t at l) (half_then (character t at ∷ []) (digit_number (first_digit a)))
 
@@ -180,12 +188,16 @@ module _ {n : ℕ} {t : List ℕ} {first at : ℕ} (H : HalfRead n t first at) w
       let l = within_second a in
       first_19 half_clear l (begins_second a l) (record { number = d; there = a; above = v }) (λ r. omega (arith, backward_from H.there H.next a r, H.told, H.below))
 
+  -- so that a number has to begin there
+  pub half_wants : Wants n t at
+  half_wants = record { within = H.within; begins = dash_number t (start + length H.digits) at H.joint H.next; missing = no_second; high = λ d. second_above }
+
   pub second_backward : {d : List ℕ} → NumberAt t at d → value d < first → FirstFault (list_faults n t) 18 at
   second_backward {d} a v =
       let l = within_second a in
       let k : value d < value H.digits = rw (← H.told) v in
       first_18 half_clear l (begins_second a l)
-      (record { start = H.start; first = H.digits; second = d; from = H.there; joint = H.joint; at = H.next; to = a; backward = k })
+      (record { start = start; first = H.digits; second = d; from = H.there; joint = H.joint; at = H.next; to = a; backward = k })
       (not_above a (omega (arith, H.below)))
 
 -- ---- after an item

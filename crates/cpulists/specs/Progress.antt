@@ -1,5 +1,5 @@
 -- How far a List text is read or written: what the steps of the reader and the writer promise one another.
-use Rattle.std.specs.Prelude.{ℕ, ◌+◌, ◌*◌, ◌≤◌, ◌<◌, min, ◌≡◌, ◌≢◌, ◌⊎◌, Bool, true, cond, not, List, [], ◌∷◌, ◌++◌, eqb, length, take, drop}
+use Rattle.std.specs.Prelude.{ℕ, ◌+◌, ◌*◌, ◌≤◌, ◌<◌, min, ◌≡◌, ◌≢◌, ◌⊎◌, true, cond, List, [], ◌∷◌, ◌++◌, eqb, length, take, drop, Result, Ok, Err}
 use Rattle.laws.specs.Decides.{Decides}
 use Rattle.laws.specs.Lists.{All, Any}
 use Rattle.masks.specs.Masks.{has}
@@ -11,6 +11,7 @@ use Rattle.cpusets.specs.Characters.{character, IsDigit}
 use Rattle.cpusets.specs.Faults.{FirstFault}
 use Rattle.cpulists.specs.List.{Item, one, item_text, IsItem, list_text, first_of, last_of, Holds, Run, run_item}
 use Rattle.cpulists.specs.Faults.{NumberAt, list_faults}
+use Rattle.cpusets.specs.declared.Fault.{Fault}
 use Rattle.cpulists.specs.declared.Number.{Number}
 use Rattle.cpulists.specs.declared.Piece.{Piece}
 use Rattle.cpulists.specs.declared.Walk.{Walk}
@@ -68,55 +69,46 @@ pub record ItemAt (n : ℕ) (t : List ℕ) (at first last end : ℕ) : Type 0 wh
   pub no_digit : IsDigit (character t end) → ⊥
   pub no_dash : (d : List ℕ) → item ≡ one d → character t end ≢ dash
 
--- the item at a place, or the text's first fault
-pub record ReadsPiece (n : ℕ) (t : List ℕ) (at : ℕ) (r : Piece) : Type 0 where
-  pub good : number_of r.answer ≡ 0 → ItemAt n t at r.first r.last r.end
-  pub bad : number_of r.answer ≢ 0 → FirstFault (list_faults n t) (number_of r.answer) r.end
+-- what a step of the reader gives, or the text's first fault
+abbrev pub OrFault : ℕ → List ℕ → {A : Type 0} → (A → Type 0) → Result A Fault → Type 0
+OrFault n t Gives (Ok x) = Gives x
+OrFault n t Gives (Err fault) = FirstFault (list_faults n t) (number_of fault.refusal) fault.offset
 
--- a range of which the first number and the dash are read
-pub record HalfRead (n : ℕ) (t : List ℕ) (first at : ℕ) : Type 0 where
-  pub start : ℕ
-  pub opens : Opens n t start
-  pub digits : List ℕ
-  pub there : NumberAt t start digits
-  pub told : first ≡ value digits
-  pub below : first < n
-  pub joint : character t (start + length digits) ≡ dash
-  pub next : at ≡ start + length digits + 1
+-- a number has to begin at a place: where no digit stands, or a number that is not below n, there is the text's first fault
+pub record Wants (n : ℕ) (t : List ℕ) (at : ℕ) : Type 0 where
   pub within : at ≤ length t
+  pub begins : (k : ℕ) → at ≡ k + 1 → IsDigit (character t k) → ⊥
+  pub missing : (IsDigit (character t at) → ⊥) → FirstFault (list_faults n t) 17 at
+  pub high : (d : List ℕ) → NumberAt t at d → n ≤ value d → FirstFault (list_faults n t) 19 at
 
--- its second number stands at a place
-pub record SecondAt (n : ℕ) (t : List ℕ) (first at : ℕ) (r : Piece) : Type 0 where
+-- a number below n stands at a place
+pub record NumberBelow (n : ℕ) (t : List ℕ) (at : ℕ) (r : Number) : Type 0 where
   pub digits : List ℕ
   pub there : NumberAt t at digits
   pub end_told : r.end ≡ at + length digits
   pub within : r.end ≤ length t
-  pub first_told : r.first ≡ first
-  pub last_told : r.last ≡ value digits
+  pub value_told : r.value ≡ value digits
   pub below : value digits < n
-  pub forward : first ≤ value digits
 
-pub record ReadsSecond (n : ℕ) (t : List ℕ) (first at : ℕ) (r : Piece) : Type 0 where
-  pub good : number_of r.answer ≡ 0 → SecondAt n t first at r
-  pub bad : number_of r.answer ≢ 0 → FirstFault (list_faults n t) (number_of r.answer) r.end
+abbrev pub FindsNumber : ℕ → List ℕ → ℕ → Result Number Fault → Type 0
+FindsNumber n t at = OrFault n t (NumberBelow n t at)
+
+-- the item at a place, or the text's first fault
+abbrev pub ReadsPiece : ℕ → List ℕ → ℕ → Result Piece Fault → Type 0
+ReadsPiece n t at = OrFault n t (λ p. ItemAt n t at p.first p.last p.end)
 
 -- an item and what follows it: the end, or a comma and an item to come
-pub record Walks (n : ℕ) (t : List ℕ) (at : ℕ) (r : Walk) : Type 0 where
-  pub further : number_of r.answer ≡ 0 → at < r.place
-  pub to : number_of r.answer ≡ 0 → r.place < length t → ReadTo n t r.place r.set
-  pub all : number_of r.answer ≡ 0 → length t ≤ r.place → (r.place ≡ length t) × ReadAll n t r.set
-  pub bad : number_of r.answer ≢ 0 → FirstFault (list_faults n t) (number_of r.answer) r.place
+pub record WalksOn (n : ℕ) (t : List ℕ) (at : ℕ) (w : Walk) : Type 0 where
+  pub further : at < w.place
+  pub to : w.place < length t → ReadTo n t w.place w.set
+  pub all : length t ≤ w.place → (w.place ≡ length t) × ReadAll n t w.set
+
+abbrev pub Walks : ℕ → List ℕ → ℕ → Result Walk Fault → Type 0
+Walks n t at = OrFault n t (WalksOn n t at)
 
 -- the cores from first to last, put into a set
 pub record Spans (set first last r : ℕ) : Type 0 where
   pub each : (c : ℕ) → Decides ((has set c ≡ true) ⊎ ((first ≤ c) × (c ≤ last))) (has r c)
-
--- the first core from a place on that is in the set, or that is not; 64 where there is none
-pub record NextIs (set from : ℕ) (inside : Bool) (r : ℕ) : Type 0 where
-  pub from_on : from ≤ r
-  pub within : r ≤ set_bits
-  pub passed : (c : ℕ) → from ≤ c → c < r → has set c ≡ not inside
-  pub found : r < set_bits → has set r ≡ inside
 
 -- the comma before a run's text, where another stands before it
 abbrev pub comma_text : ℕ → List ℕ

@@ -2,8 +2,7 @@
 use Rattle.std.specs.Prelude.{ℕ, List}
 use Rattle.cpusets.specs.Reading.{Reads}
 use Rattle.cpusets.specs.Writing.{Writes}
-use Rattle.cpusets.specs.declared.Reading.{Reading}
-use Rattle.cpusets.specs.declared.Written.{Written}
+use Rattle.cpusets.specs.Answers.{Reading, Written}
 use Rattle.cpulists.specs.List.{MeansList, ListOf}
 use Rattle.cpulists.specs.Faults.{list_faults}
 

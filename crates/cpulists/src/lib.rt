@@ -1,18 +1,14 @@
 // Sets of cores in the List format of Linux cpuset(7), as `0-4,9`. The cores that a text may name are those below a limit, of which one above 64 counts as 64.
 #![tactic(auto)]
 
-ghost use Rattle.std.specs.Prelude.{◌+◌, ◌*◌, ◌≤◌, ◌<◌, min, ◌≡◌, length};
-ghost use Rattle.laws.specs.Decides.{Decides};
-ghost use Rattle.masks.specs.Masks.{has as mask_has};
-ghost use Rattle.texts.specs.Put.{Puts};
+ghost use Rattle.std.specs.Prelude.{◌+◌, ◌*◌, ◌≤◌, ◌<◌, ◌++◌, min, ◌≡◌, length};
 ghost use Rattle.cpusets.specs.Limit.{set_bits, cores_of};
-ghost use Rattle.cpusets.specs.Characters.{IsDigit};
-ghost use Rattle.cpusets.specs.Writing.{Made};
 ghost use Rattle.cpulists.specs.List.{ListOf};
 ghost use Rattle.cpulists.specs.Promise.{ReadsList, WritesList};
-ghost use Rattle.cpulists.specs.Progress.{ReadsNumber, Opens, ReadTo, HalfRead, ReadsSecond, ReadsPiece, Spans, Walks, NextIs, comma_text, run_text, list_room};
+ghost use Rattle.cpulists.specs.Progress.{ReadsNumber, Wants, FindsNumber, Opens, ReadTo, ReadsPiece, Spans, Walks, comma_text, run_text, list_room};
 
-use cpusets::{Answer, Reading, Written};
+use arrayvec::ArrayVec;
+use cpusets::{Fault, Refusal};
 
 // No text that we write has more bytes: three for each core, two digits and what parts it from the next.
 pub const ROOM: usize = 3 * (cpusets::WIDTH as usize);
@@ -24,250 +20,209 @@ struct Number {
     value: u8,
 }
 
-// An item from its first core to its last, and where it ends; or why there is none, and where.
+// A number or a range, from its first core to its last, and where it ends.
 #[derive(Clone, Copy)]
 struct Piece {
-    answer: Answer,
     first: u8,
     last: u8,
     end: usize,
 }
 
-impl Piece {
-    fn new(answer: Answer, first: u8, last: u8, end: usize) -> Piece
-        ensures { (result.answer ≡ answer) × (result.first ≡ first) × (result.last ≡ last) × (result.end ≡ end) }
-    {
-        Piece {
-            answer,
-            first,
-            last,
-            end,
-        }
-    }
-}
-
-// The next place to read, and the set so far; or why there is none, and where.
+// The next place to read, and the set so far.
 #[derive(Clone, Copy)]
 struct Walk {
-    answer: Answer,
     place: usize,
     set: u64,
 }
 
-impl Walk {
-    fn new(answer: Answer, place: usize, set: u64) -> Walk
-        ensures { (result.answer ≡ answer) × (result.place ≡ place) × (result.set ≡ set) }
+// A text, and how many cores there may be.
+#[derive(Clone, Copy)]
+struct Reader<'a> {
+    text: &'a [u8],
+    cores: u8,
+    ghost few: { cores ≤ set_bits },
+}
+
+impl Reader<'_> {
+    // One digit more; the number of cores stands for every value that is not below it, so that no number is too long.
+    fn more(&self, value: u8, digit: u8) -> u8
+        ensures { result ≡ min (10 * value + digit) self.now.cores }
     {
-        Walk { answer, place, set }
+        value
+            .saturating_mul(10)
+            .saturating_add(digit)
+            .min(self.cores)
     }
-}
 
-fn is_digit(c: u8) -> bool
-    ensures { Decides (IsDigit c) result }
-{
-    if c < b'0' { false } else { c <= b'9' }
-}
-
-// One digit more; n stands for every value that is not below it, so that no number is too long.
-fn more(value: u8, digit: u8, n: u8) -> u8
-    requires { (value ≤ n) × (n ≤ set_bits) × (digit ≤ 9) }
-    ensures { result ≡ min (10 * value + digit) n }
-{
-    let next = 10 * (value as u16) + (digit as u16);
-    if next < (n as u16) { next as u8 } else { n }
-}
-
-fn digits(text: &[u8], at: usize, n: u8) -> Number
-    requires { (at ≤ length text.now) × (n ≤ set_bits) }
-    ensures { ReadsNumber n text.now at result }
-{
-    let mut end = at;
-    let mut value: u8 = 0;
-    while end < text.len() {
-        let c = text[end];
-        if !is_digit(c) {
-            return Number { end, value };
+    fn digits(&self, at: usize) -> Number
+        requires { at ≤ length self.now.text.now }
+        ensures { ReadsNumber self.now.cores self.now.text.now at result }
+    {
+        let mut value = 0;
+        for (k, c) in self.text[at..].iter().enumerate() {
+            if !c.is_ascii_digit() {
+                return Number { end: at + k, value };
+            }
+            value = self.more(value, *c - b'0');
         }
-        value = more(value, c - b'0', n);
-        end += 1;
+        Number {
+            end: self.text.len(),
+            value,
+        }
     }
-    Number { end, value }
-}
 
-// The second number of a range, at its place.
-fn range(text: &[u8], first: u8, at: usize, n: u8) -> Piece
-    requires { (n ≤ set_bits) × HalfRead n text.now first at }
-    ensures { ReadsSecond n text.now first at result }
-{
-    let last = digits(text, at, n);
-    if last.end == at {
-        return Piece::new(Answer::Unexpected, 0, 0, at);
+    // The number at a place where one has to begin.
+    fn number(&self, at: usize) -> Result<Number, Fault>
+        requires { Wants self.now.cores self.now.text.now at }
+        ensures { FindsNumber self.now.cores self.now.text.now at result }
+    {
+        let number = self.digits(at);
+        if number.end == at {
+            return Err(Fault {
+                refusal: Refusal::Unexpected,
+                offset: at,
+            });
+        }
+        if self.cores <= number.value {
+            return Err(Fault {
+                refusal: Refusal::AboveLimit,
+                offset: at,
+            });
+        }
+        Ok(number)
     }
-    if n <= last.value {
-        return Piece::new(Answer::AboveLimit, 0, 0, at);
-    }
-    if last.value < first {
-        return Piece::new(Answer::Backward, 0, 0, at);
-    }
-    Piece::new(Answer::Done, first, last.value, last.end)
-}
 
-// The number or range at a place where one has to begin.
-fn item(text: &[u8], at: usize, n: u8) -> Piece
-    requires { (n ≤ set_bits) × (at < length text.now) × Opens n text.now at }
-    ensures { ReadsPiece n text.now at result }
-{
-    let first = digits(text, at, n);
-    if first.end == at {
-        return Piece::new(Answer::Unexpected, 0, 0, at);
+    // The number or range at a place where one has to begin.
+    fn item(&self, at: usize) -> Result<Piece, Fault>
+        requires { (at < length self.now.text.now) × Opens self.now.cores self.now.text.now at }
+        ensures { ReadsPiece self.now.cores self.now.text.now at result }
+    {
+        let first = self.number(at)?;
+        let Some(b'-') = self.text.get(first.end) else {
+            return Ok(Piece {
+                first: first.value,
+                last: first.value,
+                end: first.end,
+            });
+        };
+        let second = first.end + 1;
+        let last = self.number(second)?;
+        if last.value < first.value {
+            return Err(Fault {
+                refusal: Refusal::Backward,
+                offset: second,
+            });
+        }
+        Ok(Piece {
+            first: first.value,
+            last: last.value,
+            end: last.end,
+        })
     }
-    if n <= first.value {
-        return Piece::new(Answer::AboveLimit, 0, 0, at);
+
+    // An item, and the comma or the end that has to follow it. After a comma the text can't end.
+    fn advance(&self, walk: Walk) -> Result<Walk, Fault>
+        requires { (walk.place < length self.now.text.now) × ReadTo self.now.cores self.now.text.now walk.place walk.set }
+        ensures { Walks self.now.cores self.now.text.now walk.place result }
+    {
+        let item = self.item(walk.place)?;
+        let set = span(walk.set, item.first, item.last);
+        match &self.text[item.end..] {
+            [] => Ok(Walk {
+                place: item.end,
+                set,
+            }),
+            [b',', _, ..] => Ok(Walk {
+                place: item.end + 1,
+                set,
+            }),
+            [b','] => Err(Fault {
+                refusal: Refusal::Unexpected,
+                offset: item.end + 1,
+            }),
+            _ => Err(Fault {
+                refusal: Refusal::Unexpected,
+                offset: item.end,
+            }),
+        }
     }
-    let end = first.end;
-    if end == text.len() {
-        return Piece::new(Answer::Done, first.value, first.value, end);
-    }
-    if text[end] != b'-' {
-        return Piece::new(Answer::Done, first.value, first.value, end);
-    }
-    range(text, first.value, end + 1, n)
 }
 
 // The set with the cores from first to last.
-fn span(set: u64, first: u8, last: u8) -> u64
+fn span(mut set: u64, first: u8, last: u8) -> u64
     requires { (first ≤ last) × (last < set_bits) }
     ensures { Spans set first last result }
 {
-    let mut r = set;
-    let mut c = first;
-    while c <= last {
-        r = r | (1u64 << c);
-        c += 1;
+    for core in first..=last {
+        set |= 1 << core;
     }
-    r
-}
-
-// An item, and the comma or the end that has to follow it. After a comma the text can't end.
-fn advance(text: &[u8], at: usize, set: u64, n: u8) -> Walk
-    requires { (n ≤ set_bits) × (at < length text.now) × ReadTo n text.now at set }
-    ensures { Walks n text.now at result }
-{
-    let i = item(text, at, n);
-    let answer = i.answer;
-    let end = i.end;
-    if answer.number() != 0 {
-        return Walk::new(answer, end, 0);
-    }
-    let with = span(set, i.first, i.last);
-    if end == text.len() {
-        return Walk::new(Answer::Done, end, with);
-    }
-    if text[end] != b',' {
-        return Walk::new(Answer::Unexpected, end, 0);
-    }
-    if end + 1 == text.len() {
-        return Walk::new(Answer::Unexpected, end + 1, 0);
-    }
-    Walk::new(Answer::Done, end + 1, with)
+    set
 }
 
 // The set that a List text means.
-pub fn read(text: &[u8], limit: u8) -> Reading
+pub fn read(text: &[u8], limit: u8) -> Result<u64, Fault>
     ensures { ReadsList (cores_of limit) text.now result }
 {
-    let n = cpusets::cores(limit);
-    let mut at: usize = 0;
-    let mut set: u64 = 0;
-    while at < text.len() {
-        let w = advance(text, at, set, n);
-        let answer = w.answer;
-        let offset = w.place;
-        if answer.number() != 0 {
-            return Reading::Refused { answer, offset };
-        }
-        at = offset;
-        set = w.set;
+    let reader = Reader {
+        text,
+        cores: cpusets::cores(limit),
+    };
+    let mut walk = Walk { place: 0, set: 0 };
+    // How far a turn goes, the text tells.
+    while walk.place < text.len() {
+        walk = reader.advance(walk)?;
     }
-    Reading::Cores { set }
-}
-
-fn has(set: u64, core: u8) -> bool
-    ensures { result ≡ mask_has set core }
-{
-    if core < cpusets::WIDTH {
-        (set >> core) % 2 == 1
-    } else {
-        false
-    }
-}
-
-// The first core from a place on that is in the set, or that is not.
-fn next(set: u64, from: u8, inside: bool) -> u8
-    requires { from ≤ set_bits }
-    ensures { NextIs set from inside result }
-{
-    let mut c = from;
-    while c < cpusets::WIDTH {
-        if has(set, c) == inside {
-            return c;
-        }
-        c += 1;
-    }
-    c
+    Ok(walk.set)
 }
 
 // A comma, where something stands before it.
-fn put_comma(text: &mut [u8], at: usize) -> usize
-    requires { at + length (comma_text at) ≤ length text.old }
-    ensures { Puts (comma_text at) at text.old text.new result }
+fn put_comma(text: &mut ArrayVec<u8, ROOM>)
+    requires { length text.old.items + length (comma_text (length text.old.items)) ≤ list_room }
+    ensures { text.new.items ≡ text.old.items ++ comma_text (length text.old.items) }
 {
-    if at == 0 {
-        return at;
+    if !text.is_empty() {
+        text.push(b',');
     }
-    texts::put_byte(text, at, b',')
 }
 
 // A run of cores, after a comma where it is not the first.
-fn put_run(text: &mut [u8], at: usize, first: u8, last: u8) -> usize
-    requires { at + length (run_text at (record { first = first; last = last })) ≤ length text.old }
-    ensures { Puts (run_text at (record { first = first; last = last })) at text.old text.new result }
+fn put_run(text: &mut ArrayVec<u8, ROOM>, first: u8, last: u8)
+    requires { length text.old.items + length (run_text (length text.old.items) (record { first = first; last = last })) ≤ list_room }
+    ensures { text.new.items ≡ text.old.items ++ run_text (length text.old.items) (record { first = first; last = last }) }
 {
-    let start = put_comma(text, at);
-    let end = decimals::put(text, start, first as u64);
-    if first == last {
-        return end;
+    put_comma(text);
+    decimals::put(text, u64::from(first));
+    if first != last {
+        text.push(b'-');
+        decimals::put(text, u64::from(last));
     }
-    let dash = texts::put_byte(text, end, b'-');
-    decimals::put(text, dash, last as u64)
-}
-
-// The List text of a set.
-fn put_list(text: &mut [u8], set: u64) -> usize
-    requires { list_room ≤ length text.old }
-    ensures { Made (ListOf set) text.new result }
-{
-    let mut at: usize = 0;
-    let mut first = next(set, 0, true);
-    while first < cpusets::WIDTH {
-        let end = next(set, first, false);
-        at = put_run(text, at, first, end - 1);
-        first = next(set, end, true);
-    }
-    at
 }
 
 // The one List text of a set.
-pub fn write(set: u64, limit: u8, buffer: &mut [u8]) -> Written
+fn list_text(set: u64) -> ArrayVec<u8, ROOM>
+    ensures { ListOf set result.items }
+{
+    let mut text = ArrayVec::new();
+    let mut first = 0;
+    // A run ends before each core that the set has not, and no set has the core after the last.
+    for core in 0..=cpusets::WIDTH {
+        if masks::has(set, usize::from(core)) {
+            continue;
+        }
+        if first < core {
+            put_run(&mut text, first, core - 1);
+        }
+        first = core + 1;
+    }
+    text
+}
+
+// Writes the one List text of a set.
+pub fn write(set: u64, limit: u8, buffer: &mut [u8]) -> Result<usize, Refusal>
     ensures { WritesList (cores_of limit) set buffer.old buffer.new result }
 {
-    if cpusets::names_above(set, cpusets::cores(limit)) {
-        return Written {
-            answer: Answer::AboveLimit,
-            length: 0,
-        };
+    if masks::names_missing(set, cpusets::cores(limit)) {
+        return Err(Refusal::AboveLimit);
     }
-    let mut text = [0u8; ROOM];
-    let size = put_list(&mut text, set);
-    cpusets::hand_over(&text, size, buffer)
+    cpusets::hand_over(&list_text(set), buffer)
 }
