@@ -1,7 +1,7 @@
 -- What fresh returns, as a function of the test of its count; and that it is sound, so usable, refused or not.
 use Prim.Native.Nat.{ℕ}
 use mathlib.Core.Path.{◌≡◌, refl}
-use mathlib.Core.Logic.{◌⊎◌, inl, inr}
+use mathlib.Core.Logic.{inl, inr}
 use mathlib.Core.Bool.{Bool, true, false}
 use Rattle.std.specs.Prelude.{Ok, Err}
 use mathlib.Core.List.{[], ◌∷◌}
@@ -54,12 +54,10 @@ pub empty_shaped : (n : ℕ) → Shaped (empty_of n)
 empty_shaped n = record { tasks = length-replicate slot_limit no_task; order = length-replicate slot_limit none; seats = length-replicate core_limit none }
 
 pub freshly_keeps : {cores : ℕ} {r : Outcome} → Freshly cores r → Shaped r.dispatcher × Sound r.dispatcher
-freshly_keeps {cores} {r} f = go (ℕ_discrete (number_of r.report.answer) 0)
+freshly_keeps {cores} {r} f = elim (ℕ_discrete (number_of r.report.answer) 0) [
+  | yes z ↦ rw (f.done z) (empty_shaped cores, empty_sound (legal z))
+  | no z ↦ rw (f.refused z) (empty_shaped 1, empty_sound (omega arith))
+]
   where
-    legal : number_of r.report.answer ≡ 0 → (count_test cores ≡ true) ⊎ (count_test cores ≡ false) → LegalCount cores
-    legal z (inl y) = (count_decides cores).yes y
-    legal z (inr n) = absurd (none_applies f.answer z 2 (inl (refl, (count_decides cores).no n)))
-
-    go : Dec (number_of r.report.answer ≡ 0) → Shaped r.dispatcher × Sound r.dispatcher
-    go (yes z) = rw (f.done z) (empty_shaped cores, empty_sound (legal z (cases (count_test cores))))
-    go (no z) = rw (f.refused z) (empty_shaped 1, empty_sound (omega arith))
+    legal : number_of r.report.answer ≡ 0 → LegalCount cores
+    legal z = elim (cases (count_test cores)) [ inl y ↦ (count_decides cores).yes y | inr n ↦ absurd (none_applies f.answer z 2 (inl (refl, (count_decides cores).no n))) ]

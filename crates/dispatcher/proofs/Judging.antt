@@ -1,8 +1,8 @@
 -- The number whose turn comes first, found by tests: the first of a list of tests that is true names the answer.
 use Prim.Native.Nat.{ℕ, zero, suc, ◌≤◌, ◌<◌}
 use mathlib.Core.Path.{◌≡◌, refl}
-use mathlib.Core.Logic.{◌⊎◌, inl, inr}
-use mathlib.Core.Bool.{Bool, true, false, cond}
+use mathlib.Core.Logic.{inl, inr}
+use mathlib.Core.Bool.{Bool, cond}
 use Rattle.std.specs.Prelude.{Ok}
 use mathlib.Core.List.{List, [], ◌∷◌}
 use native.Mathlib.Omega.{arith}
@@ -35,22 +35,14 @@ applies_above : (b : ℕ) (rs : List Refusal) (ts : List Test) (n : ℕ) → Jud
 applies_above b [] ts n j a = absurd a
 applies_above b (r ∷ rs) [] n j a = absurd j
 applies_above b (r ∷ rs) (t ∷ ts) n j (inl (e, c)) = rw e j.2
-applies_above b (r ∷ rs) (t ∷ ts) n j (inr a) = let k = applies_above (turn_of r.number) rs ts n j.3 a in omega (arith, j.2)
+applies_above b (r ∷ rs) (t ∷ ts) n j (inr a) = omega (arith, j.2, applies_above (turn_of r.number) rs ts n j.3 a)
 
 -- the first row's cause holds, and the turns of the later rows come later; or it does not hold
 taken : {r : Refusal} {rs : List Refusal} → r.cause → 0 < r.number → ((m : ℕ) → Applies rs m → turn_of r.number < turn_of m) → Answers (r ∷ rs) r.number
-taken {r} {rs} c p above = record { listed = λ _. inl (refl, c); first = low }
-  where
-    low : (m : ℕ) → Applies (r ∷ rs) m → (0 < r.number) × (turn_of r.number ≤ turn_of m)
-    low m (inl (e, _)) = (p, rw e (omega arith))
-    low m (inr a) = (p, let l = above m a in omega arith)
+taken {r} c p above = record { listed = λ _. inl (refl, c); first = λ m a. (p, elim a [ inl e ↦ rw e.0 (omega arith) | inr b ↦ omega (arith, above m b) ]) }
 
 passed : {r : Refusal} {rs : List Refusal} {n : ℕ} → (r.cause → ⊥) → Answers rs n → Answers (r ∷ rs) n
-passed {r} {rs} {n} fails h = record { listed = λ z. inr (h.listed z); first = low }
-  where
-    low : (m : ℕ) → Applies (r ∷ rs) m → (0 < n) × (turn_of n ≤ turn_of m)
-    low m (inl (_, c)) = absurd (fails c)
-    low m (inr a) = h.first m a
+passed fails h = record { listed = λ z. inr (h.listed z); first = λ m a. elim a [ inl e ↦ absurd (fails e.1) | inr b ↦ h.first m b ] }
 
 -- a turn that comes after the first ones is no turn of 0
 positive : (n : ℕ) → length checked_first < turn_of n → 0 < n
@@ -62,11 +54,10 @@ unfolding first_of
 judged_after b [] [] later j = record { listed = λ n. absurd (n refl); first = λ m a. absurd a }
 judged_after b [] (t ∷ ts) later j = absurd j
 judged_after b (r ∷ rs) [] later j = absurd j
-judged_after b (r ∷ rs) (t ∷ ts) later j = go (cases t.found) (judged_after (turn_of r.number) rs ts (omega (arith, later, j.2)) j.3)
-  where
-    go : (t.found ≡ true) ⊎ (t.found ≡ false) → Answers rs (number_of (first_of ts)) → Answers (r ∷ rs) (number_of (cond t.found t.gives (first_of ts)))
-    go (inl y) rest = rw (y, ← j.1) (taken (j.0.yes y) (positive r.number (omega (arith, later, j.2))) (λ m a. applies_above (turn_of r.number) rs ts m j.3 a))
-    go (inr n) rest = rw n (passed (j.0.no n) rest)
+judged_after b (r ∷ rs) (t ∷ ts) later j = elim (cases t.found) [
+  | inl y ↦ rw (y, ← j.1) (taken (j.0.yes y) (positive r.number (omega (arith, later, j.2))) (λ m a. applies_above (turn_of r.number) rs ts m j.3 a))
+  | inr n ↦ rw n (passed (j.0.no n) (judged_after (turn_of r.number) rs ts (omega (arith, later, j.2)) j.3))
+]
 
 -- rows of which none is checked first, judged by their tests
 abbrev pub JudgedBy : List Refusal → List Test → Type 0

@@ -22,11 +22,7 @@ use Rattle.dispatcher.proofs.Same.{refusal_positive}
 
 -- where a slot that is named is not refused, there is such a slot
 pub slot_below : {slot : ℕ} {rs : List Refusal} {n : ℕ} → Answers (3 when IsAbove slot ∷ rs) n → n ≡ 0 → slot < slot_limit
-slot_below {slot} h z = go (dec_lt slot slot_limit)
-  where
-    go : Dec (slot < slot_limit) → slot < slot_limit
-    go (yes l) = l
-    go (no l) = absurd (none_applies h z 3 (inl (refl, omega arith)))
+slot_below {slot} h z = elim (dec_lt slot slot_limit) [ yes l ↦ l | no l ↦ absurd (none_applies h z 3 (inl (refl, omega arith))) ]
 
 -- and so where a call that names it is done
 pub called_below : (d : Dispatcher) {slot : ℕ} {rs : List Refusal} {n : ℕ} → Answers (unsound_refusals d ++ (3 when IsAbove slot ∷ rs)) n → n ≡ 0 → slot < slot_limit

@@ -96,26 +96,22 @@ pub outcome_same : {r q : Outcome} → r.report ≡ q.report → r.dispatcher �
 outcome_same p q = λ i. record { report = p i; dispatcher = q i }
 
 pub freshly_same : {cores : ℕ} {r q : Outcome} → Freshly cores r → Freshly cores q → r ≡ q
-freshly_same {cores} {r} {q} a b = outcome_same (a.still ∙ ap still_of same ∙ sym b.still) (go (ℕ_discrete (number_of r.report.answer) 0))
+freshly_same {cores} {r} {q} a b = outcome_same (a.still ∙ ap still_of same ∙ sym b.still) (elim (ℕ_discrete (number_of r.report.answer) 0) [
+  | yes z ↦ a.done z ∙ sym (b.done (rw (← same) z))
+  | no z ↦ a.refused z ∙ sym (b.refused (rw (← same) z))
+])
   where
     same : r.report.answer ≡ q.report.answer
     same = answer_same (fresh_refusals cores) (omega arith, tt) a.answer b.answer
-
-    go : Dec (number_of r.report.answer ≡ 0) → r.dispatcher ≡ q.dispatcher
-    go (yes z) = a.done z ∙ sym (b.done (rw (← same) z))
-    go (no z) = a.refused z ∙ sym (b.refused (rw (← same) z))
 
 -- ---- a call on a dispatcher, where what it does when accepted allows one result
 
 pub promised_same : {rs : List Refusal} {d : Dispatcher} {Does : Outcome → Type 0} {r q : Outcome}
     → (r.report.answer ≡ q.report.answer → Does r → Does q → r ≡ q) → Promised rs d Does r → Promised rs d Does q → r ≡ q
-promised_same {rs} {d} {r = r} {q = q} done a b = go (ℕ_discrete (number_of r.report.answer) 0)
+promised_same {rs} {d} {r = r} {q = q} done a b = elim (ℕ_discrete (number_of r.report.answer) 0) [
+  | yes z ↦ done same (a.done z) (b.done (rw (← same) z))
+  | no z ↦ let y : number_of q.report.answer ≢ 0 = rw (← same) z in outcome_same (a.still z ∙ ap still_of same ∙ sym (b.still y)) (a.kept z ∙ sym (b.kept y))
+]
   where
     same : r.report.answer ≡ q.report.answer
     same = answered_same {rs = rs} {d = d} (record { answer = a.answer; place = a.place }) (record { answer = b.answer; place = b.place })
-
-    go : Dec (number_of r.report.answer ≡ 0) → r ≡ q
-    go (yes z) = done same (a.done z) (b.done (rw (← same) z))
-    go (no z) =
-        let y : number_of q.report.answer ≢ 0 = rw (← same) z in
-        outcome_same (a.still z ∙ ap still_of same ∙ sym (b.still y)) (a.kept z ∙ sym (b.kept y))

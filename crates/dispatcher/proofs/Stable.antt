@@ -1,10 +1,10 @@
 -- What is not false holds: each part of soundness is decided by a test.
 use Prim.Native.Nat.{ℕ}
-use mathlib.Core.Path.{◌≡◌}
+use mathlib.Core.Path.{◌≡◌, refl}
 use mathlib.Core.Logic.{◌⊎◌, inl, inr}
 use mathlib.Core.Bool.{Bool, true, false}
 use native.Mathlib.Decide.{ℕ_discrete, dec_le, dec_lt}
-use Rattle.laws.proofs.Deciding.{cases, clash}
+use Rattle.laws.proofs.Deciding.{cases}
 use Rattle.masks.specs.Masks.{has}
 use Rattle.dispatcher.specs.Limits.{core_limit, slot_limit, none, greatest_priority}
 use Rattle.dispatcher.specs.Slots.{task_at, order_at, seat_at, Ready}
@@ -17,26 +17,15 @@ by_dec (yes p) h = p
 by_dec (no n) h = absurd (h n)
 
 by_bool : (b : Bool) → ((b ≡ true → ⊥) → ⊥) → b ≡ true
-by_bool b h = go (cases b)
-  where
-    go : (b ≡ true) ⊎ (b ≡ false) → b ≡ true
-    go (inl y) = y
-    go (inr n) = absurd (h (λ y. clash y n))
+by_bool true h = refl
+by_bool false h = absurd (h (λ y. cc))
 
 -- the task in a slot is ready, or it is not
 pub ready_or_not : (d : Dispatcher) (s : ℕ) → Ready d s ⊎ (Ready d s → ⊥)
-ready_or_not d s = go (cases (ready_test d s))
-  where
-    go : (ready_test d s ≡ true) ⊎ (ready_test d s ≡ false) → Ready d s ⊎ (Ready d s → ⊥)
-    go (inl y) = inl ((ready_decides d s).yes y)
-    go (inr n) = inr ((ready_decides d s).no n)
+ready_or_not d s = elim (cases (ready_test d s)) [ inl y ↦ inl ((ready_decides d s).yes y) | inr n ↦ inr ((ready_decides d s).no n) ]
 
 pub not_unready : (d : Dispatcher) (s : ℕ) → ((Ready d s → ⊥) → ⊥) → Ready d s
-not_unready d s h = go (ready_or_not d s)
-  where
-    go : Ready d s ⊎ (Ready d s → ⊥) → Ready d s
-    go (inl r) = r
-    go (inr n) = absurd (h n)
+not_unready d s h = elim (ready_or_not d s) [ inl r ↦ r | inr n ↦ absurd (h n) ]
 
 -- ---- a condition that is not broken holds
 

@@ -33,11 +33,7 @@ OneEach (c ∷ cs) = ((p q : ℕ) → c.place p → c.place q → p ≡ q) × On
 
 place_same : (cs : List Condition) (n p q : ℕ) → OneEach cs → PlaceWith cs n p → PlaceWith cs n q → p ≡ q
 place_same [] n p q one a b = a ∙ sym b
-place_same (c ∷ cs) n p q one a b = go (ℕ_discrete n c.number) (λ z. place_same cs n p q one.1 (a.1 z) (b.1 z))
-  where
-    go : Dec (n ≡ c.number) → (n ≢ c.number → p ≡ q) → p ≡ q
-    go (yes e) on = one.0 p q (a.0 e) (b.0 e)
-    go (no z) on = on z
+place_same (c ∷ cs) n p q one a b = elim (ℕ_discrete n c.number) [ yes e ↦ one.0 p q (a.0 e) (b.0 e) | no z ↦ place_same cs n p q one.1 (a.1 z) (b.1 z) ]
 
 pub points_same : {d : Dispatcher} {n p q : ℕ} → Points d n p → Points d n q → p ≡ q
 points_same {d} {n} {p} {q} a b =
@@ -70,33 +66,18 @@ place_none [] n p out z = z
 place_none (c ∷ cs) n p out z = ((λ e. absurd (out.0 e)), λ _. place_none cs n p out.1 z)
 
 pub later_points : (d : Dispatcher) (a : Answer) → IsLater (number_of a) → Points d (number_of a) (place_of a)
-later_points d a l =
-    let out = not_first (number_of a) l in
-    record {
-      told = place_none (conditions d) (number_of a) (place_of a)
-          ((λ e. out (inl e)), ((λ e. out (inr (inl e))), ((λ e. out (inr (inr (inl e)))), ((λ e. out (inr (inr (inr (inl e))))), ((λ e. out (inr (inr (inr (inr (inl e)))))), tt)))))
-          (later_place a l);
-    }
+later_points d a l = record { told = place_none (conditions d) (number_of a) (place_of a) (grind arith) (later_place a l) }
 
 -- done, or refused by a row that is not checked first
 pub later_answer : (rs : List Refusal) (n : ℕ) → AllLater rs → Answers rs n → IsLater n
-later_answer rs n later h = go (ℕ_discrete n 0)
-  where
-    go : Dec (n ≡ 0) → IsLater n
-    go (yes z) = rw z (omega arith)
-    go (no z) = from_applies (length checked_first) rs n later (h.listed z)
+later_answer rs n later h = elim (ℕ_discrete n 0) [ yes z ↦ rw z (omega arith) | no z ↦ from_applies (length checked_first) rs n later (h.listed z) ]
 
 -- ---- sound, and not
 
 module _ (d : Dispatcher) where
   -- nothing is said against a sound dispatcher
   sound_none : Sound d → (m : ℕ) → Applies (unsound_refusals d) m → ⊥
-  sound_none S m (inl (_, bad)) = bad S.count
-  sound_none S m (inr (inl (_, bad))) = bad S.slots
-  sound_none S m (inr (inr (inl (_, bad)))) = bad S.order
-  sound_none S m (inr (inr (inr (inl (_, bad))))) = bad S.missing
-  sound_none S m (inr (inr (inr (inr (inl (_, bad)))))) = bad S.seats
-  sound_none S m (inr (inr (inr (inr (inr a))))) = a
+  sound_none S m a = grind arith
 
   pub sound_answers : Sound d → Answers (unsound_refusals d) 0
   sound_answers S = record { listed = λ z. absurd (z refl); first = λ m a. absurd (sound_none S m a) }
@@ -124,12 +105,7 @@ module _ (d : Dispatcher) where
   done_own rs = answers_rest (unsound_refusals d) rs
 
   first_applies : (n : ℕ) → Applies (unsound_refusals d) n → In n checked_first
-  first_applies n (inl (e, _)) = inl e
-  first_applies n (inr (inl (e, _))) = inr (inl e)
-  first_applies n (inr (inr (inl (e, _)))) = inr (inr (inl e))
-  first_applies n (inr (inr (inr (inl (e, _))))) = inr (inr (inr (inl e)))
-  first_applies n (inr (inr (inr (inr (inl (e, _)))))) = inr (inr (inr (inr (inl e))))
-  first_applies n (inr (inr (inr (inr (inr a))))) = absurd a
+  first_applies n a = grind arith
 
   pub unsound_turn : (n : ℕ) → Applies (unsound_refusals d) n → turn_of n < length checked_first
   unsound_turn n a = first_turn checked_first n (first_applies n a)
@@ -142,10 +118,7 @@ pub unsound_told : (d : Dispatcher) {rs : List Refusal} {n : ℕ} → Answers (u
 unsound_told d {rs} {n} h bad = elim (in_or_not n checked_first) [ inl i ↦ i | inr out ↦ absurd (bad (none_sound d (λ m a. out (turn m a)))) ]
   where
     turn : (m : ℕ) → Applies (unsound_refusals d) m → In n checked_first
-    turn m a =
-        let k = h.first m (applies_left (unsound_refusals d) rs m a) in
-        let l = unsound_turn d m a in
-        turn_first checked_first n (omega (arith, k.1, l))
+    turn m a = turn_first checked_first n (omega (arith, h.first m (applies_left (unsound_refusals d) rs m a), unsound_turn d m a))
 
 -- an answer of 0
 pub done_answered : (d : Dispatcher) {rs : List Refusal} → Answers rs 0 → Answered rs d (Ok tt)
@@ -166,13 +139,8 @@ module _ {d : Dispatcher} (rs more : List Refusal) where
 
 module _ {d : Dispatcher} (rs : List Refusal) (later : AllLater rs) where
   pub unsound_first : {a : Answer} → Answered (unsound_refusals d) d a → number_of a ≢ 0 → Answered (unsound_refusals d ++ rs) d a
-  unsound_first {a} h z = answered_first (unsound_refusals d) rs h z above
-    where
-      above : (m : ℕ) → Applies rs m → turn_of (number_of a) < turn_of m
-      above m x =
-          let l = from_applies (length checked_first) rs m later x in
-          let k = unsound_turn d (number_of a) (h.answer.listed z) in
-          omega arith
+  unsound_first {a} h z =
+      answered_first (unsound_refusals d) rs h z (λ m x. omega (arith, from_applies (length checked_first) rs m later x, unsound_turn d (number_of a) (h.answer.listed z)))
 
   pub sound_then : {a : Answer} → Sound d → Answers rs (number_of a) → Answered (unsound_refusals d ++ rs) d a
   sound_then S h = answered_then (unsound_refusals d) rs (sound_answers d S) later h
@@ -183,11 +151,10 @@ abbrev pub checked_then : Answer → List Test → Answer
 checked_then a ts = let rest = first_of ts in cond (eqb (number_of a) 0) rest a
 
 pub checked_then_lem : {d : Dispatcher} (a : Answer) (rs : List Refusal) (ts : List Test) → Answered (unsound_refusals d) d a → JudgedBy rs ts → Answered (unsound_refusals d ++ rs) d (checked_then a ts)
-checked_then_lem {d} a rs ts h j = go (ℕ_discrete (number_of a) 0)
-  where
-    go : Dec (number_of a ≡ 0) → Answered (unsound_refusals d ++ rs) d (checked_then a ts)
-    go (yes z) = rw (eq-eqb (number_of a) 0 z) (sound_then rs (judged_later rs ts j) (done_sound d {rs = []} h.answer z) (judged rs ts j))
-    go (no z) = rw (ne_eqb (number_of a) 0 z) (unsound_first rs (judged_later rs ts j) h z)
+checked_then_lem {d} a rs ts h j = elim (ℕ_discrete (number_of a) 0) [
+  | yes z ↦ rw (eq-eqb (number_of a) 0 z) (sound_then rs (judged_later rs ts j) (done_sound d {rs = []} h.answer z) (judged rs ts j))
+  | no z ↦ rw (ne_eqb (number_of a) 0 z) (unsound_first rs (judged_later rs ts j) h z)
+]
 
 pub sound_answered : {d : Dispatcher} → Sound d → Answered (unsound_refusals d) d (Ok tt)
 sound_answered {d} S = done_answered d (sound_answers d S)
