@@ -3,26 +3,27 @@ use Prim.Native.Nat.{ℕ, ◌/◌, ◌^◌, ◌<◌}
 use mathlib.Core.Path.{refl}
 use mathlib.Core.Bool.{Bool, not, cond}
 use mathlib.Core.List.{List, [], ◌∷◌, ◌++◌}
+use Rattle.std.specs.Prelude.{Err}
 use native.Mathlib.Omega.{arith}
 use lib.Dec.{eqb, leb}
 use borrow.Author.Tests.{eq-eqb, ne_eqb}
 use Rattle.laws.specs.Decides.{Decides}
 use Rattle.laws.specs.Answering.{◌when◌, turn_of, Answers}
+use Rattle.laws.proofs.Answering.{AllLater}
 use Rattle.laws.proofs.Deciding.{decides_eq, decides_le}
 use Rattle.masks.proofs.Bits.{names_test}
 use Rattle.dispatcher.specs.Limits.{slot_limit}
 use Rattle.dispatcher.specs.Slots.{task_at}
-use Rattle.dispatcher.specs.Answers.{number_of}
+use Rattle.dispatcher.specs.Answers.{Answer, number_of}
 use Rattle.dispatcher.specs.Unsound.{unsound_refusals}
 use Rattle.dispatcher.specs.Reports.{still_of}
 use Rattle.dispatcher.specs.Promise.{Answered}
-use Rattle.dispatcher.specs.declared.Answer.{Answer}
-use Rattle.dispatcher.specs.declared.Answer.TheVariants.{SlotAbove, SlotInUse, SlotEmpty, PriorityZero, MaskEmpty, MissingCore}
+use Rattle.dispatcher.specs.declared.Refusal.TheVariants.{SlotAbove, SlotInUse, SlotEmpty, PriorityZero, MaskEmpty, MissingCore}
 use Rattle.dispatcher.specs.declared.Task.{Task}
 use Rattle.dispatcher.specs.declared.Report.{Report}
 use Rattle.dispatcher.specs.declared.Dispatcher.{Dispatcher}
 use Rattle.dispatcher.specs.declared.Outcome.{Outcome}
-use Rattle.dispatcher.proofs.Judging.{Test, test, first_of, JudgedBy, judged}
+use Rattle.dispatcher.proofs.Judging.{Test, test, first_of, JudgedBy, judged, judged_later}
 use Rattle.dispatcher.proofs.Testing.{empty_test, empty_decides, used_decides}
 use Rattle.dispatcher.proofs.Unsound.{checked_then, checked_then_lem}
 use Rattle.tasks.specs.Table.{with_task, Settles}
@@ -34,11 +35,11 @@ use Rattle.tasks.proofs.Settling.{settles_promised}
 
 abbrev pub entry_tests : Dispatcher → ℕ → ℕ → ℕ → List Test
 entry_tests d slot priority mask =
-    test (leb slot_limit slot) SlotAbove ∷
-    test (not (empty_test (task_at d slot))) SlotInUse ∷
-    test (eqb priority 0) PriorityZero ∷
-    test (eqb mask 0) MaskEmpty ∷
-    test (not (eqb (mask / 2 ^ d.cores) 0)) MissingCore ∷ []
+    test (leb slot_limit slot) (Err SlotAbove) ∷
+    test (not (empty_test (task_at d slot))) (Err SlotInUse) ∷
+    test (eqb priority 0) (Err PriorityZero) ∷
+    test (eqb mask 0) (Err MaskEmpty) ∷
+    test (not (eqb (mask / 2 ^ d.cores) 0)) (Err MissingCore) ∷ []
 
 pub entry_judges : (d : Dispatcher) (slot priority mask : ℕ) → JudgedBy (entry_refusals d slot priority mask) (entry_tests d slot priority mask)
 entry_judges d slot priority mask = (
@@ -53,20 +54,23 @@ entry_judges d slot priority mask = (
   ),
 )
 
+pub entry_later : (d : Dispatcher) (slot priority mask : ℕ) → AllLater (entry_refusals d slot priority mask)
+entry_later d slot priority mask = judged_later (entry_refusals d slot priority mask) (entry_tests d slot priority mask) (entry_judges d slot priority mask)
+
 pub entry_answers : (d : Dispatcher) (slot priority mask : ℕ) → Answers (entry_refusals d slot priority mask) (number_of (first_of (entry_tests d slot priority mask)))
 entry_answers d slot priority mask = judged (entry_refusals d slot priority mask) (entry_tests d slot priority mask) (entry_judges d slot priority mask)
 
 -- the tests of every call on the task in a slot, and one more
 abbrev pub slot_tests : Dispatcher → ℕ → List Test → List Test
 slot_tests d slot more =
-    test (leb slot_limit slot) SlotAbove ∷
-    test (empty_test (task_at d slot)) SlotEmpty ∷ more
+    test (leb slot_limit slot) (Err SlotAbove) ∷
+    test (empty_test (task_at d slot)) (Err SlotEmpty) ∷ more
 
 pub slot_judges : (d : Dispatcher) (slot : ℕ) → JudgedBy (slot_refusals d slot) (slot_tests d slot [])
 slot_judges d slot = (decides_le slot_limit slot, refl, omega arith, (empty_decides (task_at d slot), refl, omega arith, tt))
 
-pub slot_answers : (d : Dispatcher) (slot : ℕ) → Answers (slot_refusals d slot) (number_of (first_of (slot_tests d slot [])))
-slot_answers d slot = judged (slot_refusals d slot) (slot_tests d slot []) (slot_judges d slot)
+pub slot_later : (d : Dispatcher) (slot : ℕ) → AllLater (slot_refusals d slot)
+slot_later d slot = judged_later (slot_refusals d slot) (slot_tests d slot []) (slot_judges d slot)
 
 -- j is what the check of soundness says
 pub named_and : {d : Dispatcher} (slot : ℕ) {P : Type 0} {f : Bool} (j a : Answer) → Answered (unsound_refusals d) d j → Decides P f → turn_of 5 < turn_of (number_of a)

@@ -6,10 +6,9 @@ use mathlib.Core.List.{[], ◌∷◌, ◌++◌}
 use native.Mathlib.Omega.{arith}
 use Rattle.laws.specs.Answering.{◌when◌, Applies, turn_of, Answers}
 use Rattle.laws.proofs.Answering.{applies_split}
-use Rattle.dispatcher.specs.Answers.{number_of}
+use Rattle.dispatcher.specs.Answers.{Answer, number_of}
 use Rattle.dispatcher.specs.Unsound.{unsound_refusals}
 use Rattle.dispatcher.specs.Promise.{Answered}
-use Rattle.dispatcher.specs.declared.Answer.{Answer}
 use Rattle.dispatcher.specs.declared.Dispatcher.{Dispatcher}
 use Rattle.dispatcher.proofs.Unsound.{unsound_turn, answered_first, answered_then}
 use Rattle.tasks.specs.Named.{slot_refusals, named_refusals}

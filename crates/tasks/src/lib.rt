@@ -10,40 +10,32 @@ ghost use Rattle.tasks.specs.Table.{Settles};
 ghost use Rattle.tasks.specs.Named.{named_refusals};
 ghost use Rattle.tasks.specs.Create.{entry_refusals, create_refusals, Creates};
 
-use dispatcher::{Answer, Dispatcher, Outcome, Report, Task};
+use dispatcher::{Answer, Dispatcher, Outcome, Refusal, Report, Task};
 
 // What a task is refused for where the dispatcher is sound.
 pub fn entry(d: Dispatcher, slot: u16, priority: u8, mask: u32) -> Answer
     ensures { Answers (entry_refusals d slot priority mask) (number_of result) }
 {
-    let at = slot as usize;
-    if Dispatcher::SLOTS <= at {
-        return Answer::SlotAbove;
-    }
-    let t = d.tasks[at];
-    if t.is_used() {
-        return Answer::SlotInUse;
+    let held = d.tasks.get(usize::from(slot)).ok_or(Refusal::SlotAbove)?;
+    if held.is_used() {
+        return Err(Refusal::SlotInUse);
     }
     if priority == 0 {
-        return Answer::PriorityZero;
+        return Err(Refusal::PriorityZero);
     }
     if mask == 0 {
-        return Answer::MaskEmpty;
+        return Err(Refusal::MaskEmpty);
     }
-    let cores = d.cores;
-    if masks::names_missing(mask, cores) {
-        return Answer::MissingCore;
+    if masks::names_missing(u64::from(mask), d.cores) {
+        return Err(Refusal::MissingCore);
     }
-    Answer::Done
+    Ok(())
 }
 
 fn create_answer(d: Dispatcher, slot: u16, priority: u8, mask: u32) -> Answer
     ensures { Answered (create_refusals d slot priority mask) d result }
 {
-    let unsound = soundness::check(d);
-    if unsound.number() != 0 {
-        return unsound;
-    }
+    soundness::check(d)?;
     entry(d, slot, priority, mask)
 }
 
@@ -51,39 +43,25 @@ fn create_answer(d: Dispatcher, slot: u16, priority: u8, mask: u32) -> Answer
 pub fn named(d: Dispatcher, slot: u16) -> Answer
     ensures { Answered (named_refusals d slot) d result }
 {
-    let unsound = soundness::check(d);
-    if unsound.number() != 0 {
-        return unsound;
+    soundness::check(d)?;
+    let task = d.tasks.get(usize::from(slot)).ok_or(Refusal::SlotAbove)?;
+    if !task.is_used() {
+        return Err(Refusal::SlotEmpty);
     }
-    let at = slot as usize;
-    if Dispatcher::SLOTS <= at {
-        return Answer::SlotAbove;
-    }
-    let t = d.tasks[at];
-    if !t.is_used() {
-        return Answer::SlotEmpty;
-    }
-    Answer::Done
+    Ok(())
 }
 
 // The slot gets the task where the report says done; else the dispatcher stays as it stood.
-pub fn written(d: Dispatcher, slot: u16, t: Task, report: Report) -> Outcome
+pub fn written(mut d: Dispatcher, slot: u16, t: Task, report: Report) -> Outcome
     requires { number_of report.answer ≡ 0 → slot < slot_limit }
     ensures { Settles d slot t report result }
 {
-    let answer = report.answer;
-    if answer.number() != 0 {
-        return Outcome {
-            report,
-            dispatcher: d,
-        };
+    if report.answer.is_ok() {
+        d.tasks[usize::from(slot)] = t;
     }
-    let mut next = d;
-    let at = slot as usize;
-    next.tasks[at] = t;
     Outcome {
         report,
-        dispatcher: next,
+        dispatcher: d,
     }
 }
 
@@ -92,7 +70,6 @@ pub fn create(d: Dispatcher, slot: u16, priority: u8, mask: u32) -> Outcome
     ensures { Creates d slot priority mask result }
 {
     let answer = create_answer(d, slot, priority, mask);
-    let t = Task { priority, mask };
     let report = Report::still(answer);
-    written(d, slot, t, report)
+    written(d, slot, Task { priority, mask }, report)
 }
