@@ -1,11 +1,10 @@
 -- The text of a set: the one whose every place is as it is written.
-use Prim.Native.Nat.{ℕ, ◌+◌, ◌*◌, ◌/◌, ◌%◌, ◌^◌, ◌≤◌, ◌<◌}
-use mathlib.Core.Path.{◌≡◌, refl, sym, ap, ◌∙◌}
+use Prim.Native.Nat.{ℕ, ◌*◌, ◌/◌, ◌%◌, ◌^◌, ◌<◌}
+use mathlib.Core.Path.{◌≡◌, sym, ap, ◌∙◌}
 use mathlib.Core.List.{List}
 use native.Mathlib.Decide.{ℕ_discrete, dec_lt}
 use native.Mathlib.Omega.{arith}
-use lib.ListN.{length, take, get_or-eq_default, set, length-set}
-use lib.Seq.{length-take-le, get_or-take, get_or-set_same, get_or-set_other}
+use lib.ListN.{length, get_or-eq_default}
 use borrow.Author.Tests.{lt-ltb}
 use Rattle.laws.specs.Decides.{Decides}
 use Rattle.laws.proofs.Deciding.{clash}
@@ -14,7 +13,6 @@ use Rattle.masks.specs.Masks.{has, NamesMissing}
 use Rattle.masks.proofs.Bits.{has_shifted}
 use Rattle.masks.proofs.Operators.{has_cut}
 use Rattle.cpusets.specs.Characters.{character}
-use Rattle.cpusets.specs.Writing.{Made}
 use Rattle.cpumasks.specs.Mask.{words_of, IsUpper, hex_value_of, mask_size, place_of, HasCore, MaskOf}
 use Rattle.cpumasks.specs.Progress.{lowest_core_of, IsGlyph, IsWritten}
 use Rattle.cpumasks.proofs.Places.{place_within, no_comma, core_of}
@@ -55,26 +53,3 @@ module _ (words s : ℕ) (t : List ℕ) (none : NamesMissing (32 * words) s → 
 -- the words that the limit needs have room for every core
 pub words_enough : {n s : ℕ} → NamesMissing (32 * words_of n) s → NamesMissing n s
 words_enough h = record { core = h.core; missing = omega (arith, h.missing); named = h.named }
-
--- ---- the writer's loop
-
-pub record WrittenTo (words s : ℕ) (before bytes : List ℕ) (i : ℕ) : Type 0 where
-  pub within : i ≤ mask_size words
-  pub same : length bytes ≡ length before
-  pub each : (o : ℕ) → o < i → IsWritten words s o (character bytes o)
-
-pub written_start : (words s : ℕ) (bytes : List ℕ) → WrittenTo words s bytes bytes 0
-written_start words s bytes = record { within = omega arith; same = refl; each = λ o l. absurd (omega arith) }
-
-pub written_more : {words s i r : ℕ} {before bytes : List ℕ} → mask_size words ≤ length before → WrittenTo words s before bytes i → i < mask_size words → IsWritten words s i r → WrittenTo words s before (set bytes i r) (i + 1)
-written_more {words} {s} {i} {r} {bytes = bytes} room w l h = record { within = omega arith; same = length-set bytes i r ∙ w.same; each = λ o k. go o k (ℕ_discrete o i) }
-  where
-    go : (o : ℕ) → o < i + 1 → Dec (o ≡ i) → IsWritten words s o (character (set bytes i r) o)
-    go o k (yes e) = rw (e, get_or-set_same bytes i r 0 (omega (arith, w.same))) h
-    go o k (no e) = rw (get_or-set_other bytes i o r 0 e) (w.each o (omega arith))
-
-pub written_end : {words s : ℕ} {before bytes : List ℕ} → (NamesMissing (32 * words) s → ⊥) → mask_size words ≤ length before → WrittenTo words s before bytes (mask_size words) → Made (MaskOf words s) bytes (mask_size words)
-written_end {words} {s} {bytes = bytes} none room w = record {
-  is = written_mask words s (take (mask_size words) bytes) none (length-take-le (mask_size words) bytes (omega (arith, w.same))) (λ o l. rw (get_or-take (mask_size words) bytes o 0 l) (w.each o l));
-  within = omega (arith, w.same);
-}

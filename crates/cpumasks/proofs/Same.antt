@@ -11,9 +11,8 @@ use Rattle.laws.proofs.Deciding.{clash, decides_same, decides_by}
 use Rattle.masks.specs.Masks.{has}
 use Rattle.masks.proofs.Bits.{has_beyond}
 use Rattle.masks.proofs.Operators.{same_bits, same_cores}
+use Rattle.cpusets.specs.Answers.{Reading, Written}
 use Rattle.cpusets.specs.Characters.{character}
-use Rattle.cpusets.specs.declared.Reading.{Reading}
-use Rattle.cpusets.specs.declared.Written.{Written}
 use Rattle.cpusets.proofs.Same.{reads_same, writes_same}
 use Rattle.cpumasks.specs.Mask.{words_of, IsHex, hex_value_of, mask_size, IsCommaPlace, HasCore, MeansMask, MaskOf}
 use Rattle.cpumasks.specs.Faults.{mask_faults}

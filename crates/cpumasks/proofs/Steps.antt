@@ -1,7 +1,7 @@
 -- One place of a Mask text after another: the place read, or the text's first fault.
 use Prim.Native.Nat.{ℕ, ◌+◌, ◌-◌, ◌*◌, ◌%◌, ◌^◌, ◌≤◌, ◌<◌}
 use mathlib.Core.Path.{◌≡◌, refl, sym, ap, ◌∙◌}
-use mathlib.Core.Logic.{◌⊎◌, ◌≢◌, inl, inr}
+use mathlib.Core.Logic.{◌⊎◌, inl, inr}
 use mathlib.Core.Bool.{true, false, ◌||◌}
 use mathlib.Core.List.{List}
 use native.Mathlib.Decide.{ℕ_discrete, dec_lt}
@@ -10,26 +10,31 @@ use lib.Bits.{bit_or}
 use lib.Pow.{shl_exact}
 use lib.ListN.{length, take, get_or-eq_default}
 use borrow.Author.Count.{below_more}
+use Rattle.std.specs.Slice.{IsItemAt}
+use Rattle.std.specs.Prelude.{Option, Some, None, Result, Ok, Err, IsErrAnd, ok_or}
+use denote.Ref.{Bor}
 use Rattle.laws.specs.Answering.{Applies}
 use Rattle.laws.proofs.Deciding.{clash, cases, decides_yes, decides_is, decides_by}
 use Rattle.laws.proofs.Testing.{or_cases, or_left, or_right}
 use Rattle.masks.specs.Masks.{has, NamesMissing}
-use Rattle.masks.proofs.Bits.{has_zero, has_beyond}
+use Rattle.masks.proofs.Bits.{has_beyond}
 use Rattle.masks.proofs.Operators.{has_or, has_up, up_none}
 use Rattle.texts.specs.Joined.{comma}
 use Rattle.cpusets.specs.Answers.{number_of}
 use Rattle.cpusets.specs.Characters.{character}
 use Rattle.cpusets.specs.Faults.{Begins, IsUnexpected, FirstFault, Faultless}
-use Rattle.cpusets.specs.declared.Answer.{Answer}
-use Rattle.cpusets.specs.declared.Answer.TheVariants.{Done}
+use Rattle.cpusets.specs.declared.Refusal.{Refusal}
 use Rattle.cpusets.proofs.Beginning.{expected, none_unexpected, first_fault}
 use Rattle.cpumasks.specs.Mask.{IsHex, hex_value_of, mask_size, IsCommaPlace, IsPlaced, IsMaskText, place_of, HasCore, MeansMask}
 use Rattle.cpumasks.specs.Faults.{HasAbove, mask_faults}
-use Rattle.cpumasks.specs.Progress.{lowest_core_of, MaskTo, WalksMask}
-use Rattle.cpumasks.specs.declared.Walk.{Walk}
+use Rattle.cpumasks.specs.Progress.{lowest_core_of, SaysHex, MaskTo, WalksMask}
 use Rattle.cpumasks.proofs.Digits.{hex_small}
 use Rattle.cpumasks.proofs.Places.{place_within, no_comma, core_of, core_below, core_place, core_bit}
 use Rattle.cpumasks.proofs.Filling.{begins_placed, begun_placed}
+
+-- what `get` gives
+pub got : (t : List ℕ) (at : ℕ) {o : Option (Bor ℕ)} {b : Bor ℕ} → IsItemAt t at o → o ≡ Some b → (at < length t) × (character t at ≡ b.now)
+got t at h e = (grind arith, grind arith)
 
 -- a digit stands within the text
 hex_within : (t : List ℕ) (o : ℕ) → IsHex (character t o) → o < length t
@@ -47,14 +52,6 @@ hex_within t o h = go (dec_lt o (length t))
 -- where a core has its digit, the place is as it should be
 core_placed : {words c : ℕ} {t : List ℕ} → HasCore words t c → IsPlaced t (place_of words c)
 core_placed {words} {c} h = record { comma_there = λ k. absurd (no_comma words c h.below k); digit_there = λ _. h.digit }
-
-pub to_start : (n words : ℕ) (t : List ℕ) → MaskTo n words t 0 0
-to_start n words t = record {
-  within = omega arith;
-  each = λ o l. absurd (omega arith);
-  below = λ c h l. absurd (omega arith);
-  cores = λ c. record { yes = λ y. clash y (has_zero c); no = λ _ h. omega (arith, h.1) };
-}
 
 -- ---- the first fault
 
@@ -89,7 +86,7 @@ module _ {n words at set : ℕ} {t : List ℕ} (to : MaskTo n words t at set) (f
       go (inl x) = x.1 (begins_placed words (at + 1) t (omega (arith, there)) (omega (arith, inside)) upto)
       go (inr x) = omega (arith, x.0, there)
 
-  pub fault_unexpected : IsUnexpected (IsMaskText words) t at → FirstFault (mask_faults n words t) 17 at
+  fault_unexpected : IsUnexpected (IsMaskText words) t at → FirstFault (mask_faults n words t) 17 at
   fault_unexpected u = first_fault (inl (refl, u)) past one
     where
       one : (m : ℕ) → Applies (mask_faults n words t at) m → 17 ≡ m
@@ -107,14 +104,14 @@ module _ {n words at set : ℕ} {t : List ℕ} (to : MaskTo n words t at set) (f
 
   -- ---- what is unexpected: the end, a character, one too many
 
-  pub ended : at ≡ length t → at < mask_size words → IsUnexpected (IsMaskText words) t at
-  ended e l = record { before = begun; here = inr (e, λ m. omega (arith, m.whole)) }
+  pub fault_end : at < mask_size words → length t ≤ at → FirstFault (mask_faults n words t) 17 at
+  fault_end l e = fault_unexpected (record { before = begun; here = inr (omega (arith, to.within), λ m. omega (arith, m.whole)) })
 
-  pub misplaced : at < length t → (IsPlaced t at → ⊥) → IsUnexpected (IsMaskText words) t at
-  misplaced l wrong = record { before = begun; here = inl (l, λ b. wrong (begun_placed l b).1) }
+  pub fault_character : at < length t → (IsPlaced t at → ⊥) → FirstFault (mask_faults n words t) 17 at
+  fault_character l wrong = fault_unexpected (record { before = begun; here = inl (l, λ b. wrong (begun_placed l b).1) })
 
-  pub surplus : at < length t → mask_size words ≤ at → IsUnexpected (IsMaskText words) t at
-  surplus l k = record { before = begun; here = inl (l, λ b. omega (arith, (begun_placed l b).0)) }
+  pub fault_surplus : at < length t → mask_size words ≤ at → FirstFault (mask_faults n words t) 17 at
+  fault_surplus l k = fault_unexpected (record { before = begun; here = inl (l, λ b. omega (arith, (begun_placed l b).0)) })
 
 -- ---- one place more
 
@@ -141,10 +138,6 @@ bits_at words t at = hex_value_of (character t at) * 2 ^ lowest_core_of words at
 module _ (words at : ℕ) (t : List ℕ) (inside : at < mask_size words) (digit-place : IsCommaPlace at → ⊥) (hex : IsHex (character t at)) where
   abbrev bits : ℕ
   bits = bits_at words t at
-
-  -- the machine's digit shifted up, of which nothing is lost
-  pub bits_shifted : {d low : ℕ} → words ≤ 2 → d ≡ hex_value_of (character t at) → low ≡ lowest_core_of words at → (d * 2 ^ low) % 2 ^ 64 ≡ bits
-  bits_shifted few e k = rw (e, k) (shl_exact 4 (lowest_core_of words at) 64 (hex_small (character t at) hex) (omega arith))
 
   bit_core : (c : ℕ) → has bits c ≡ true → HasCore words t c × (place_of words c ≡ at)
   bit_core c y = go (dec_lt c (lowest_core_of words at))
@@ -201,13 +194,20 @@ module _ (words at : ℕ) (t : List ℕ) (inside : at < mask_size words) (digit-
           go (inl y) = clash (or_left (has bits c) y) z
           go (inr f) = (to.cores c).no f (h.0, omega (arith, h.1))
 
--- ---- what a step answers
+-- the machine's digit shifted up, of which nothing is lost
+pub digit_read : {words at c d low : ℕ} (t : List ℕ) (r : Option ℕ) → words ≤ 2 → at < mask_size words → (IsCommaPlace at → ⊥) → character t at ≡ c → SaysHex c r → r ≡ Some d → low ≡ lowest_core_of words at
+    → IsHex (character t at) × ((d * 2 ^ low) % 2 ^ 64 ≡ bits_at words t at)
+digit_read {words} {at} {c} {d} t r few inside place e says some k =
+    let h = rw some at says in
+    (rw e h.0, rw (k, e, h.1) (shl_exact 4 (lowest_core_of words at) 64 (hex_small c h.0) (omega arith)))
 
-pub walks_bad : {n words at : ℕ} {t : List ℕ} {a : Answer} {r : Walk} → r.answer ≡ a → number_of a ≢ 0 → FirstFault (mask_faults n words t) (number_of a) at → WalksMask n words t at r
-walks_bad e z f = record { to = λ y. absurd (z (sym (ap number_of e) ∙ y)); bad = λ _. rw e f }
+-- ---- what a step answers where there is no character, or no digit
 
-pub walks_on : {n words at set : ℕ} {t : List ℕ} {r : Walk} → (r.answer ≡ Done) × (r.set ≡ set) → MaskTo n words t (at + 1) set → WalksMask n words t at r
-walks_on e to = record { to = λ _. rw e.1 to; bad = λ z. absurd (z (ap number_of e.0)) }
+pub refused : {A : Type 0} {n words at : ℕ} {t : List ℕ} (r : Result ℕ Refusal) (o : Option A) {e : Refusal} (d : Refusal)
+    → IsErrAnd r (λ x. x ≡ e) → ◌≡◌ {A = Result A Refusal} (Err e) (ok_or o d) → FirstFault (mask_faults n words t) (number_of d) at → WalksMask n words t at r
+refused (Ok s) o d h k f = absurd h
+refused (Err x) (Some y) d h k f = absurd (cc)
+refused (Err x) None {e} d h k f = let same : x ≡ d = cc in rw same f
 
 -- ---- the end
 

@@ -1,22 +1,21 @@
 -- How far a Mask text is read or written: what the steps of the reader and the writer promise one another.
-use Rattle.std.specs.Prelude.{ℕ, ◌+◌, ◌-◌, ◌*◌, ◌/◌, ◌%◌, ◌^◌, ◌≤◌, ◌<◌, ◌≡◌, ◌≢◌, List, length}
+use Rattle.std.specs.Prelude.{ℕ, ◌+◌, ◌-◌, ◌*◌, ◌/◌, ◌%◌, ◌^◌, ◌≤◌, ◌<◌, ◌≡◌, List, length, Option, SomeIff, Result, MatchResult}
 use Rattle.laws.specs.Decides.{Decides}
 use Rattle.masks.specs.Masks.{has}
 use Rattle.texts.specs.Joined.{comma}
 use Rattle.cpusets.specs.Answers.{number_of}
 use Rattle.cpusets.specs.Faults.{FirstFault}
+use Rattle.cpusets.specs.declared.Refusal.{Refusal}
 use Rattle.cpumasks.specs.Mask.{IsHex, IsUpper, hex_value_of, IsCommaPlace, IsPlaced, place_of, HasCore}
 use Rattle.cpumasks.specs.Faults.{mask_faults}
-use Rattle.cpumasks.specs.declared.Walk.{Walk}
 
 -- the lowest core of the digit at a place
 abbrev pub lowest_core_of : ℕ → ℕ → ℕ
 lowest_core_of words o = 32 * (words - 1 - o / 9) + 4 * (7 - o % 9)
 
--- what a character says as a hexadecimal digit, above 15 where it is none
-pub record SaysHex (c r : ℕ) : Type 0 where
-  pub yes : r ≤ 15 → IsHex c × (r ≡ hex_value_of c)
-  pub no : 15 < r → IsHex c → ⊥
+-- what a character says as a hexadecimal digit, if it is one
+abbrev pub SaysHex : ℕ → Option ℕ → Type 0
+SaysHex c r = SomeIff r (IsHex c) (hex_value_of c)
 
 -- the character that we write for a digit
 pub record IsGlyph (d r : ℕ) : Type 0 where
@@ -37,6 +36,5 @@ pub record MaskTo (n words : ℕ) (t : List ℕ) (at set : ℕ) : Type 0 where
   pub cores : (c : ℕ) → Decides (HasCore words t c × (place_of words c < at)) (has set c)
 
 -- one place more, or the text's first fault
-pub record WalksMask (n words : ℕ) (t : List ℕ) (at : ℕ) (r : Walk) : Type 0 where
-  pub to : number_of r.answer ≡ 0 → MaskTo n words t (at + 1) r.set
-  pub bad : number_of r.answer ≢ 0 → FirstFault (mask_faults n words t) (number_of r.answer) at
+abbrev pub WalksMask : ℕ → ℕ → List ℕ → ℕ → Result ℕ Refusal → Type 0
+WalksMask n words t at r = MatchResult r (MaskTo n words t (at + 1)) (λ refusal. FirstFault (mask_faults n words t) (number_of refusal) at)

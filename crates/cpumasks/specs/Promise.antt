@@ -1,9 +1,8 @@
 -- What the reader and the writer of Mask texts promise, n being how many cores there may be.
 use Rattle.std.specs.Prelude.{ℕ, List}
+use Rattle.cpusets.specs.Answers.{Reading, Written}
 use Rattle.cpusets.specs.Reading.{Reads}
 use Rattle.cpusets.specs.Writing.{Writes}
-use Rattle.cpusets.specs.declared.Reading.{Reading}
-use Rattle.cpusets.specs.declared.Written.{Written}
 use Rattle.cpumasks.specs.Mask.{words_of, MeansMask, MaskOf}
 use Rattle.cpumasks.specs.Faults.{mask_faults}
 
