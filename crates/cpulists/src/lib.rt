@@ -11,7 +11,7 @@ use arrayvec::ArrayVec;
 use cpusets::{Fault, Refusal};
 
 // No text that we write has more bytes: three for each core, two digits and what parts it from the next.
-pub const ROOM: usize = 3 * (cpusets::WIDTH as usize);
+pub const ROOM: usize = 3 * masks::SET_WIDTH;
 
 // Digits from a place on: where they end, and what they say.
 #[derive(Clone, Copy)]
@@ -168,21 +168,11 @@ pub fn read(text: &[u8], limit: u8) -> Result<u64, Fault>
         cores: cpusets::cores(limit),
     };
     let mut walk = Walk { place: 0, set: 0 };
-    // How far a turn goes, the text tells.
+    // A turn goes as far as the item that it reads, so that no `for` has the places.
     while walk.place < text.len() {
         walk = reader.advance(walk)?;
     }
     Ok(walk.set)
-}
-
-// A comma, where something stands before it.
-fn put_comma(text: &mut ArrayVec<u8, ROOM>)
-    requires { length text.old.items + length (comma_text (length text.old.items)) ≤ list_room }
-    ensures { text.new.items ≡ text.old.items ++ comma_text (length text.old.items) }
-{
-    if !text.is_empty() {
-        text.push(b',');
-    }
 }
 
 // A run of cores, after a comma where it is not the first.
@@ -190,7 +180,9 @@ fn put_run(text: &mut ArrayVec<u8, ROOM>, first: u8, last: u8)
     requires { length text.old.items + length (run_text (length text.old.items) (record { first = first; last = last })) ≤ list_room }
     ensures { text.new.items ≡ text.old.items ++ run_text (length text.old.items) (record { first = first; last = last }) }
 {
-    put_comma(text);
+    if !text.is_empty() {
+        text.push(b',');
+    }
     decimals::put(text, u64::from(first));
     if first != last {
         text.push(b'-');
@@ -199,7 +191,7 @@ fn put_run(text: &mut ArrayVec<u8, ROOM>, first: u8, last: u8)
 }
 
 // The one List text of a set.
-fn list_text(set: u64) -> ArrayVec<u8, ROOM>
+fn list_of(set: u64) -> ArrayVec<u8, ROOM>
     ensures { ListOf set result.items }
 {
     let mut text = ArrayVec::new();
@@ -224,5 +216,5 @@ pub fn write(set: u64, limit: u8, buffer: &mut [u8]) -> Result<usize, Refusal>
     if masks::names_missing(set, cpusets::cores(limit)) {
         return Err(Refusal::AboveLimit);
     }
-    cpusets::hand_over(&list_text(set), buffer)
+    cpusets::hand_over(&list_of(set), buffer)
 }

@@ -69,7 +69,7 @@ impl From<Result<u64, Fault>> for PlainReading {
 pub const EMPTY: u64 = 0;
 
 // The bits of a set, and so the most cores that a text can name.
-pub const WIDTH: u8 = 64;
+pub const WIDTH: u8 = masks::SET_WIDTH as u8;
 
 // How many cores a limit allows: one above the bits of a set counts as those.
 pub fn cores(limit: u8) -> u8

@@ -1,9 +1,9 @@
--- `list_text` meets its contract: where a run ends it is written, and at the end none is left.
+-- `list_of` meets its contract: where a run ends it is written, and at the end none is left.
 use native.Mathlib.Omega.{arith}
 use Rattle.std.proofs.lemmas.Grind.{common_steps}
 use Rattle.cpulists.proofs.Listing.{listed_past, run_room, listed_more, listed_end}
-use Rattle.cpulists.proofs.list_text.Goals as goal
-use Rattle.cpulists.proofs.list_text.Goals.{then-first-core, else-first-core}
+use Rattle.cpulists.proofs.list_of.Goals as goal
+use Rattle.cpulists.proofs.list_of.Goals.{then-first-core, else-first-core}
 
 pub put_run-requires : goal.put_run-requires
 put_run-requires c = run_room c.loop-core.invariant (grind (arith, common_steps)) c.if-first-core.true (omega arith)
