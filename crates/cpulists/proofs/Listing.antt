@@ -1,6 +1,6 @@
 -- A list of runs written one after the other: those of the cores passed are written, and no core has taken more than three characters.
 use Prim.Native.Nat.{ℕ, ◌+◌, ◌-◌, ◌*◌, ◌^◌, ◌≤◌, ◌<◌}
-use mathlib.Core.Path.{◌≡◌, refl, sym, ap, ◌∙◌}
+use mathlib.Core.Path.{◌≡◌, sym, ap, ◌∙◌}
 use mathlib.Core.Logic.{◌⊎◌, ◌≢◌, inl, inr}
 use mathlib.Core.Bool.{true, false}
 use mathlib.Core.List.{List, [], ◌∷◌, ◌++◌, map, append_assoc, append-nil}
@@ -47,36 +47,7 @@ pub record Listed (s : ℕ) (text : List ℕ) (first core : ℕ) : Type 0 where
   pub within : first ≤ core
   pub inside : (c : ℕ) → first ≤ c → c < core → has s c ≡ true
 
-pub listed_start : {s : ℕ} → Listed s [] 0 0
-listed_start = record {
-  runs = [];
-  further = λ rest a. a;
-  held = λ c i. absurd i;
-  covered = λ c y l. absurd (omega arith);
-  is = refl;
-  short = omega arith;
-  within = omega arith;
-  inside = λ c l b. absurd (omega arith);
-}
-
 module _ {s first core : ℕ} {text : List ℕ} (w : Listed s text first core) where
-  -- the set has the core
-  pub listed_on : has s core ≡ true → Listed s text first (core + 1)
-  listed_on y = record {
-    runs = w.runs;
-    further = w.further;
-    held = w.held;
-    covered = w.covered;
-    is = w.is;
-    short = w.short;
-    within = omega (arith, w.within);
-    inside = λ c l b. at c l b (ℕ_discrete c core);
-  }
-    where
-      at : (c : ℕ) → first ≤ c → c < core + 1 → Dec (c ≡ core) → has s c ≡ true
-      at c l b (yes e) = rw e y
-      at c l b (no n) = w.inside c l (omega arith)
-
   module _ (n : has s core ≡ false) where
     -- no run ends before the core
     pub listed_past : first ≡ core → Listed s text (core + 1) (core + 1)

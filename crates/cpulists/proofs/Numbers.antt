@@ -1,6 +1,6 @@
 -- Digits that are read one by one: they are a number's digits so far, and n stands for every value that is not below it.
 use Prim.Native.Nat.{ℕ, ◌+◌, ◌-◌, ◌*◌, ◌≤◌, ◌<◌, min}
-use mathlib.Core.Path.{◌≡◌, refl, ap, ◌∙◌}
+use mathlib.Core.Path.{◌≡◌, ap, ◌∙◌}
 use mathlib.Core.List.{List, [], ◌∷◌, ◌++◌}
 use native.Mathlib.Omega.{arith}
 use native.Mathlib.Numerals.{add-one}
@@ -11,8 +11,6 @@ use Rattle.laws.proofs.Lists.{all_append, get_d_beyond}
 use Rattle.decimals.specs.Decimal.{value}
 use Rattle.decimals.proofs.Spelling.{value_append}
 use Rattle.cpusets.specs.Characters.{character, IsDigit}
-use Rattle.cpulists.specs.Progress.{ReadsNumber}
-use Rattle.cpulists.specs.declared.Number.{Number}
 
 pub record SoFar (n : ℕ) (t : List ℕ) (at end v : ℕ) : Type 0 where
   pub digits : List ℕ
@@ -21,9 +19,6 @@ pub record SoFar (n : ℕ) (t : List ℕ) (at end v : ℕ) : Type 0 where
   pub end_told : end ≡ at + length digits
   pub within : end ≤ length t
   pub value_told : v ≡ min (value digits) n
-
-pub none_yet : {n : ℕ} {t : List ℕ} {at : ℕ} → at ≤ length t → SoFar n t at at 0
-none_yet l = record { digits = []; is = refl; each = tt; end_told = omega arith; within = l; value_told = omega arith }
 
 -- all that stands from a place on
 pub from_place : (at : ℕ) (t : List ℕ) → take (length t - at) (drop at t) ≡ drop at t
@@ -46,18 +41,6 @@ one_more {n} {v} {w} {t} {s} at k q p l d e = record {
 
     room : length p.digits < length s
     room = omega (arith, told)
-
--- no digit follows
-pub all_read : {n : ℕ} {t : List ℕ} {at : ℕ} {r : Number} → SoFar n t at r.end r.value → (IsDigit (character t r.end) → ⊥) → ReadsNumber n t at r
-all_read {t = t} s h = record {
-  digits = s.digits;
-  is = s.is;
-  each = s.each;
-  ends = rw s.end_told at h;
-  end = s.end_told;
-  within = s.within;
-  value_told = s.value_told;
-}
 
 -- the end is no digit
 pub past_end : (t : List ℕ) (o : ℕ) → length t ≤ o → IsDigit (character t o) → ⊥

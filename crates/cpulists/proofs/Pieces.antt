@@ -1,65 +1,22 @@
--- What the steps of the reader hand one another: digits as a number, a refusal passed on, an item of one number or of two.
+-- An item of one number, or of two.
 use Prim.Native.Nat.{ℕ, ◌+◌, ◌≤◌, ◌<◌}
-use mathlib.Core.Path.{◌≡◌, refl, sym, ap, subst, ◌∙◌}
+use mathlib.Core.Path.{◌≡◌, refl, sym, ap, ◌∙◌}
 use mathlib.Core.Logic.{◌≢◌}
 use mathlib.Core.Bool.{Bool, true, false}
-use mathlib.Core.List.{List, [], ◌∷◌, ◌++◌, append_assoc}
+use mathlib.Core.List.{List, ◌∷◌, ◌++◌, append_assoc}
 use native.Mathlib.Numerals.{add-one}
 use native.Mathlib.Omega.{arith}
 use lib.ListN.{length, drop, length-append}
 use lib.Seq.{take-append_seam, drop-cons, drop-drop}
 use Rattle.laws.proofs.Deciding.{clash}
-use Rattle.decimals.specs.Decimal.{value}
 use Rattle.texts.specs.Joined.{dash}
-use Rattle.cpusets.specs.Characters.{character, IsDigit}
-use Rattle.cpulists.specs.List.{IsNumber, Item, one, range}
-use Rattle.cpulists.specs.Faults.{NumberAt}
-use Rattle.cpulists.specs.Progress.{ReadsNumber, Opens, Wants, NumberBelow, ItemAt}
+use Rattle.cpusets.specs.Characters.{character}
+use Rattle.cpulists.specs.List.{Item, one, range}
+use Rattle.cpulists.specs.Progress.{Opens, NumberBelow, ItemAt}
 use Rattle.cpulists.specs.declared.Number.{Number}
 use Rattle.cpulists.proofs.Apart.{some_text}
 use Rattle.cpulists.proofs.Passing.{rest_split}
 use Rattle.cpulists.proofs.Verdicts.{HalfRead}
-
--- ---- digits
-
-module _ {n : ℕ} {t : List ℕ} {at : ℕ} {r : Number} (R : ReadsNumber n t at r) where
-  pub none_there : r.end ≡ at → IsDigit (character t at) → ⊥
-  none_there e d = R.ends (subst (λ (k : ℕ). IsDigit (character t k)) same d)
-    where
-      same : at ≡ at + length R.digits
-      same = omega (arith, R.end, e)
-
-  pub some_there : r.end ≢ at → IsNumber R.digits
-  some_there e = record { some = some R.digits refl; digits = R.each }
-    where
-      some : (d : List ℕ) → R.digits ≡ d → 0 < length d
-      some [] q = absurd (e (R.end ∙ rw q (omega arith)))
-      some (c ∷ d) q = omega arith
-
-  pub value_above : n ≤ r.value → n ≤ value R.digits
-  value_above l = omega (arith, R.value_told)
-
-  pub value_below : r.value < n → r.value ≡ value R.digits
-  value_below l = omega (arith, R.value_told)
-
--- ---- a number, where one has to begin
-
-module _ {n : ℕ} {t : List ℕ} {at : ℕ} {r : Number} (W : Wants n t at) (R : ReadsNumber n t at r) (some : r.end ≢ at) where
-  -- digits there are a number
-  pub number_there : NumberAt t at R.digits
-  number_there = record { is = R.is; number = some_there R some; begins = W.begins; ends = R.ends }
-
-  pub number_below : r.value < n → NumberBelow n t at r
-  number_below l = record {
-    digits = R.digits;
-    there = number_there;
-    end_told = R.end;
-    within = R.within;
-    value_told = value_below R l;
-    below = rw (value_below R l) at l;
-  }
-
--- ---- an item
 
 pub one_item : {n : ℕ} {t : List ℕ} {at : ℕ} {r : Number} → NumberBelow n t at r → character t r.end ≢ dash → ItemAt n t at r.value r.value r.end
 one_item N m = record {

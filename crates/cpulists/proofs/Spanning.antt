@@ -7,7 +7,7 @@ use native.Mathlib.Decide.{ℕ_discrete}
 use native.Mathlib.Omega.{arith}
 use lib.Bits.{bit_or}
 use Rattle.laws.specs.Decides.{Decides}
-use Rattle.laws.proofs.Deciding.{decides_is, decides_by, decides_or, decides_eq, clash}
+use Rattle.laws.proofs.Deciding.{decides_is, decides_by, decides_or, decides_eq}
 use Rattle.masks.specs.Masks.{has}
 use Rattle.masks.proofs.Operators.{has_or, has_power, shl_one}
 use Rattle.cpusets.specs.Limit.{set_bits}
@@ -16,9 +16,6 @@ use Rattle.cpulists.specs.Progress.{Spans}
 -- r has the cores of a set and those from first up to c
 pub record SpansTo (set first c r : ℕ) : Type 0 where
   pub each : (k : ℕ) → Decides ((has set k ≡ true) ⊎ ((first ≤ k) × (k < c))) (has r k)
-
-pub span_none : {set first : ℕ} → SpansTo set first first set
-span_none = record { each = λ k. record { yes = inl; no = λ f h. elim h [ inl y ↦ clash y f | inr l ↦ omega (arith, l.0, l.1) ] } }
 
 pub span_more : {set first c r : ℕ} → first ≤ c → c < set_bits → SpansTo set first c r → SpansTo set first (c + 1) (bit_or r (1 * 2 ^ c % 2 ^ set_bits))
 span_more {set} {first} {c} {r} l b s = record {

@@ -1,10 +1,7 @@
 -- `span` meets its contract: each turn adds one core.
 use native.Mathlib.Omega.{arith}
-use Rattle.cpulists.proofs.Spanning.{span_none, span_more, span_all}
+use Rattle.cpulists.proofs.Spanning.{span_more, span_all}
 use Rattle.cpulists.proofs.span.Goals as goal
-
-pub loop-core-init : goal.loop-core-init
-loop-core-init c = span_none
 
 pub loop-core-preserved : goal.loop-core-preserved
 loop-core-preserved c = span_more c.loop-core.auto.core (omega arith) c.loop-core.invariant
