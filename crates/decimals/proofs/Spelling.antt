@@ -8,6 +8,8 @@ use native.Mathlib.Decide.{dec_lt}
 use native.Mathlib.Omega.{arith}
 use lib.ListN.{length, length-append}
 use borrow.Author.Tests.{lt-ltb, le-ltb}
+use Rattle.std.specs.Prelude.{decimal as library_decimal}
+use Rattle.std.proofs.lemmas.Fmt.{AppendsLastDigit, decimal_from_appends, length-decimal-le_succ}
 use Rattle.laws.specs.Lists.{In}
 use Rattle.laws.proofs.Lists.{in_append}
 use Rattle.decimals.specs.Decimal.{digit, spelled, decimal, value_after, value}
@@ -30,6 +32,14 @@ decimal_small n l = rw (lt-ltb n 10 l)
 pub decimal_more : (n : ℕ) → 10 ≤ n → decimal n ≡ decimal (n / 10) ++ (digit (n % 10) ∷ [])
 unfolding decimal spelled
 decimal_more n l = rw (le-ltb n 10 l, spelled_same n (suc (n / 10)) (n / 10) (omega arith) (omega arith))
+
+-- it is what the library writes of a number of 64 bits
+pub decimal_is : (n : ℕ) → n < 2 ^ 64 → library_decimal n ≡ decimal n
+unfolding decimal spelled
+decimal_is n l = sym (decimal_from_appends spelled digit_by_digit (suc n) n l (omega (arith, length-decimal-le_succ n l)))
+  where
+    digit_by_digit : AppendsLastDigit spelled
+    digit_by_digit = record { one = λ k n l. rw (lt-ltb n 10 l) refl; more = λ k n l. rw (le-ltb n 10 l) refl }
 
 pub length_more : (n : ℕ) → 10 ≤ n → length (decimal n) ≡ length (decimal (n / 10)) + 1
 length_more n l = rw (decimal_more n l, length-append)

@@ -7,31 +7,19 @@ ghost use Rattle.decimals.specs.Decimal.{decimal};
 ghost use Rattle.decimals.specs.Fault.{fault_text};
 
 use arrayvec::ArrayVec;
+use itoa::Buffer;
 
 // No line of a refusal has more bytes, its newline included.
 pub const LONGEST_FAULT: usize = 36;
 
-// The text of n. No number of 64 bits has more than 20 digits.
-#[tactic(auto, using(crate::proofs::Spelling::decimal_small, crate::proofs::Spelling::decimal_more, crate::proofs::Spelling::decimal_length))]
-fn digits(n: u64) -> ArrayVec<u8, 20>
-    ensures { result.items ≡ decimal n }
-{
-    let mut text = if n < 10 {
-        ArrayVec::new()
-    } else {
-        digits(n / 10)
-    };
-    text.push(b'0' + (n % 10) as u8);
-    text
-}
-
 // Puts n behind a text. Whoever calls has made sure of the room.
+#[tactic(auto, using(crate::proofs::Spelling::decimal_is))]
 pub fn put<const N: usize>(text: &mut ArrayVec<u8, N>, n: u64)
     requires { length text.old.items + length (decimal n) ≤ N }
     ensures items { text.new.items ≡ text.old.items ++ decimal n }
     ensures len { length text.new.items ≡ length text.old.items + length (decimal n) }
 {
-    texts::put(text, &digits(n));
+    texts::put(text, Buffer::new().format(n).as_bytes());
 }
 
 // A space, and a number.
