@@ -2,290 +2,277 @@
 // that it reads, `list` or `mask`; its second is the limit on cores, 1 to 64, and 32 where there is none. A line that is refused gives `refused N at OFFSET`.
 #![tactic(auto)]
 
-ghost use Rattle.std.specs.Prelude.{◌≤◌, ◌<◌, length};
+ghost use Rattle.std.specs.Prelude.{◌≡◌, ◌≤◌, ◌<◌, ℕ, List, [], length, Ok, IfOk};
 ghost use Rattle.masks.specs.Masks.{NamesMissing};
-ghost use Rattle.cpusets.specs.Limit.{cores_of};
-ghost use Rattle.cpusets.specs.Writing.{Made};
-ghost use Rattle.convert.specs.Turn.{ReadsIn, WritesOut, LineOf, Turns, line_room};
+ghost use Rattle.cpusets.specs.Answers.{Reading};
+ghost use Rattle.cpusets.specs.Limit.{set_bits, cores_of};
+ghost use Rattle.cpusets.specs.Writing.{Writes};
+ghost use Rattle.cpulists.specs.List.{ListOf};
+ghost use Rattle.cpulists.specs.Progress.{list_room};
+ghost use Rattle.cpulists.specs.Promise.{ReadsList};
+ghost use Rattle.cpumasks.specs.Mask.{words_of, MaskOf};
+ghost use Rattle.cpumasks.specs.Promise.{ReadsMask};
+ghost use Rattle.convert.specs.Turn.{LineOf, Turns};
 ghost use Rattle.convert.specs.Window.{PrintsWithin, HoldsWithin};
+ghost use Rattle.cpulists.proofs.Back.{faultless_below as list_below};
+ghost use Rattle.cpulists.proofs.Room.{list_room_lem};
+ghost use Rattle.cpumasks.proofs.Back.{faultless_below as mask_below};
+ghost use Rattle.cpumasks.proofs.Room.{mask_room_lem};
+ghost use Rattle.std.proofs.Common.{le_trans, lit≤};
 
-use cpusets::{Reading, Written};
+use arrayvec::ArrayVec;
+use cpusets::{Fault, Refusal};
 use std::io::{Eprint, Print, Read};
 use std::rt::Env;
-
-// The format that is read; the other one is written.
-#[derive(Clone, Copy)]
-enum Format {
-    List,
-    Mask,
-}
+use std::{io, str};
 
 // No line that we print has more bytes, its newline included: no refusal and no mask is as long as the longest list.
 const ROOM: usize = cpulists::ROOM + 1;
 
-fn read(text: &[u8], format: Format, limit: u8) -> Reading
-    ensures { ReadsIn format (cores_of limit) text.now result }
+// A format of core sets, n being how many cores there may be.
+trait Format {
+    // What is promised of reading a text.
+    ghost ReadsIn: { ℕ → List ℕ → Reading → Type 0 };
+
+    // Which text is written for a set.
+    ghost TextOut: { ℕ → ℕ → List ℕ → Type 0 };
+
+    fn read(text: &[u8], limit: u8) -> Result<u64, Fault>
+        ensures { ReadsIn (cores_of limit) text.now result };
+
+    fn write(set: u64, limit: u8, buffer: &mut [u8]) -> Result<usize, Refusal>
+        ensures { Writes (TextOut (cores_of limit) set) (cores_of limit) set buffer.old buffer.new result };
+
+    // A set that was read has no core at or above the limit.
+    ghost reads_below: { (n s : ℕ) (t : List ℕ) → ReadsIn n t (Ok s) → NamesMissing n s → ⊥ };
+
+    // The text of such a set is no longer than the longest list.
+    ghost text_longest: { (n s : ℕ) (t : List ℕ) → n ≤ set_bits → (NamesMissing n s → ⊥) → TextOut n s t → length t ≤ list_room };
+}
+
+struct List;
+
+impl Format for List {
+    ghost ReadsIn = { ReadsList };
+
+    ghost TextOut = { λ n s t. ListOf s t };
+
+    fn read(text: &[u8], limit: u8) -> Result<u64, Fault> {
+        cpulists::read(text, limit)
+    }
+
+    fn write(set: u64, limit: u8, buffer: &mut [u8]) -> Result<usize, Refusal> {
+        cpulists::write(set, limit, buffer)
+    }
+
+    ghost reads_below = { λ n s t h. list_below h.0 h.1 };
+
+    ghost text_longest = { λ n s t few none w. list_room_lem few none w };
+}
+
+struct Mask;
+
+impl Format for Mask {
+    ghost ReadsIn = { ReadsMask };
+
+    ghost TextOut = { λ n s t. MaskOf (words_of n) s t };
+
+    fn read(text: &[u8], limit: u8) -> Result<u64, Fault> {
+        cpumasks::read(text, limit)
+    }
+
+    fn write(set: u64, limit: u8, buffer: &mut [u8]) -> Result<usize, Refusal> {
+        cpumasks::write(set, limit, buffer)
+    }
+
+    ghost reads_below = { λ n s t h. mask_below h.0 h.1 };
+
+    ghost text_longest = { λ n s t few none m. le_trans (mask_room_lem few m) (lit≤ tt) };
+}
+
+// Puts the line of a set.
+fn put_set<To: Format>(line: &mut ArrayVec<u8, ROOM>, set: u64, limit: u8)
+    requires nothing { line.old.items ≡ [] }
+    requires below { NamesMissing (cores_of limit) set → ⊥ }
+    ensures { LineOf (To.TextOut (cores_of limit) set) line.new.items }
 {
-    match format {
-        Format::List => cpulists::read(text, limit),
-        Format::Mask => cpumasks::read(text, limit),
+    let mut text = [0u8; ROOM];
+    let length = To::write(set, limit, &mut text).unwrap();
+    texts::put(line, &text[..length]);
+    line.push(b'\n');
+}
+
+// Puts what one line gives: the set that it means in the other format, or why it means none.
+#[tactic(auto, using(decimals::proofs::Fault::fault_longest))]
+fn turn<From: Format, To: Format>(line: &mut ArrayVec<u8, ROOM>, text: &[u8], limit: u8)
+    requires { line.old.items ≡ [] }
+    ensures { Turns (From.ReadsIn (cores_of limit) text.now) (To.TextOut (cores_of limit)) line.new.items }
+{
+    match From::read(text, limit) {
+        Ok(set) => put_set::<To>(line, set, limit),
+        Err(fault) => decimals::put_fault(line, fault.refusal.number(), fault.offset),
     }
 }
 
-fn write(set: u64, format: Format, limit: u8, line: &mut [u8]) -> Written
-    ensures { WritesOut format (cores_of limit) set line.old line.new result }
-{
-    match format {
-        Format::List => cpumasks::write(set, limit, line),
-        Format::Mask => cpulists::write(set, limit, line),
-    }
-}
-
-// The line of a set.
-fn put_set(line: &mut [u8], set: u64, format: Format, limit: u8) -> usize
-    requires { (NamesMissing (cores_of limit) set → ⊥) × (line_room ≤ length line.old) }
-    ensures { Made (LineOf format (cores_of limit) set) line.new result }
-{
-    let w = write(set, format, limit, line);
-    texts::put_byte(line, w.length, b'\n')
-}
-
-// What one line gives: the set that it means in the other format, or why it means none.
-fn turn(text: &[u8], format: Format, limit: u8, line: &mut [u8]) -> usize
-    requires { line_room ≤ length line.old }
-    ensures { Made (Turns format (cores_of limit) text.now) line.new result }
-{
-    match read(text, format, limit) {
-        Reading::Cores { set } => put_set(line, set, format, limit),
-        Reading::Refused { answer, offset } => decimals::put_fault(line, answer.number(), offset),
-    }
-}
-
-// Prints what one line gives; whether it could be written.
-fn print_line(rt: &(impl Print + Eprint), text: &[u8], format: Format, limit: u8) -> bool {
-    let mut line = [0u8; ROOM];
-    let length = turn(text, format, limit, &mut line);
-    if let Err(error) = rt.write_all(&line[..length]) {
-        host::fail(rt, "standard output", error);
-        return false;
-    }
-    true
-}
-
-// Where the line ends that goes on at a place: at its newline, or where the bytes end.
-fn line_end(bytes: &[u8], from: usize) -> usize
-    requires { from ≤ length bytes.now }
-    ensures { (from ≤ result) × (result ≤ length bytes.now) }
-{
-    let mut end = from;
-    while end < bytes.len() {
-        if bytes[end] == b'\n' {
-            return end;
-        }
-        end += 1;
-    }
-    end
-}
-
-// The place after the lines that were printed, or that one could not be.
+// Why the program stops before its input ends.
 #[derive(Clone, Copy)]
-enum Printed {
-    To(usize),
-    Failed,
+enum Stop {
+    Input(io::Error),
+    Output(io::Error),
+    LineLong,
 }
 
-// Prints what each line gives that has its newline. Among the first bytes, as many as were held back, there is none.
-fn print_lines(
-    rt: &(impl Print + Eprint),
+// Prints what one line gives.
+fn print_line<From: Format, To: Format>(
+    rt: &impl Print,
+    text: &[u8],
+    limit: u8,
+) -> Result<(), Stop> {
+    let mut line = ArrayVec::new();
+    turn::<From, To>(&mut line, text, limit);
+    rt.write_all(&line).map_err(Stop::Output)
+}
+
+// Prints what each line gives that has its newline, and tells where the last of them ends. Among the first bytes, as many as were held back, there is none.
+fn print_lines<From: Format, To: Format>(
+    rt: &impl Print,
     bytes: &[u8],
     held: usize,
-    format: Format,
     limit: u8,
-) -> Printed
+) -> Result<usize, Stop>
     requires { held ≤ length bytes.now }
     ensures { PrintsWithin bytes.now result }
 {
-    let mut from: usize = 0;
-    let mut end = line_end(bytes, held);
-    while end < bytes.len() {
-        if !print_line(rt, &bytes[from..end], format, limit) {
-            return Printed::Failed;
-        }
-        from = end + 1;
-        end = line_end(bytes, from);
+    let Some(last) = bytes[held..].iter().rposition(|c| *c == b'\n') else {
+        return Ok(0);
+    };
+    let end = held + last;
+    for line in bytes[..end].split(|c| *c == b'\n') {
+        print_line::<From, To>(rt, line, limit)?;
     }
-    Printed::To(from)
+    Ok(end + 1)
 }
 
-// How many bytes at the window's start belong to a line whose newline has not come, or that all is over.
-#[derive(Clone, Copy)]
-enum Held {
-    Bytes(usize),
-    Over,
-}
-
-// Moves the bytes between two places to the window's start; how many they are.
-fn move_back(window: &mut [u8], from: usize, to: usize) -> usize
+// Moves the bytes between two places, a line that has begun, to the window's start, and tells how many they are. One that fills the window is too long, and
+// the lines after it are left too: where one is left out, what we print no longer stands line by line beside what we read.
+fn hold(window: &mut [u8], from: usize, to: usize) -> Result<usize, Stop>
     requires { (from ≤ to) × (to ≤ length window.old) }
-    ensures { result ≤ length window.new }
+    ensures { IfOk result (λ held. held < length window.new) }
 {
-    let mut next: usize = 0;
-    let mut i = from;
-    while i < to {
-        window[next] = window[i];
-        next += 1;
-        i += 1;
-    }
-    next
-}
-
-// Holds back the line that has begun. One that fills the window is said to be too long, and the lines after it are left too: where one is left out, what we
-// print no longer stands line by line beside what we read.
-fn hold(rt: &impl Eprint, window: &mut [u8], from: usize, to: usize) -> Held
-    requires { (from ≤ to) × (to ≤ length window.old) }
-    ensures { HoldsWithin window.new result }
-{
-    let held = move_back(window, from, to);
+    window.copy_within(from..to, 0);
+    let held = to - from;
     if held == window.len() {
-        let _ = rt.eprintln("standard input: a line is too long");
-        return Held::Over;
+        return Err(Stop::LineLong);
     }
-    Held::Bytes(held)
+    Ok(held)
 }
 
-// Prints what the lines give that are whole, and holds back the one after them.
-fn take_lines(
-    rt: &(impl Print + Eprint),
-    window: &mut [u8],
-    held: usize,
-    filled: usize,
-    format: Format,
-    limit: u8,
-) -> Held
-    requires { (held ≤ filled) × (filled ≤ length window.old) }
-    ensures { HoldsWithin window.new result }
-{
-    match print_lines(rt, &window[..filled], held, format, limit) {
-        Printed::To(from) => hold(rt, window, from, filled),
-        Printed::Failed => Held::Over,
-    }
-}
-
-// Reads once. Where nothing more comes, what is held back is the last line, which lacks its newline.
-fn read_on(
-    rt: &(impl Print + Eprint),
+// Reads once, and tells how many bytes at the window's start are held back, of a line whose newline has not come. At the input's end they are the last line,
+// and there is nothing more to tell. Memory is fixed, so the window is lent, and its count stands beside it: a value with both would be copied whole.
+fn read_on<From: Format, To: Format>(
+    rt: &impl Print,
     input: &mut impl Read,
     window: &mut [u8],
     held: usize,
-    format: Format,
     limit: u8,
-) -> Held
+) -> Result<Option<usize>, Stop>
     requires { held < length window.old }
     ensures { HoldsWithin window.new result }
 {
-    let more = match input.read(&mut window[held..]) {
-        Ok(more) => more,
-        Err(error) => {
-            host::fail(rt, "standard input", error);
-            return Held::Over;
+    let more = input.read(&mut window[held..]).map_err(Stop::Input)?;
+    if more == 0 {
+        if 0 < held {
+            print_line::<From, To>(rt, &window[..held], limit)?;
         }
-    };
-    if 0 < more {
-        return take_lines(rt, window, held, held + more, format, limit);
+        return Ok(None);
     }
-    if 0 < held {
-        print_line(rt, &window[..held], format, limit);
-    }
-    Held::Over
+    let filled = held + more;
+    let from = print_lines::<From, To>(rt, &window[..filled], held, limit)?;
+    Ok(Some(hold(window, from, filled)?))
 }
 
-// Reads on until all is over. A proved loop has to end, and nothing says that the input does: so it takes its turns from a range that no run uses up.
-fn read_to_end(
-    rt: &(impl Print + Eprint),
+// Reads on until the input ends. A proved loop has to end, and nothing says that the input does: so it takes its turns from a range that no run uses up.
+fn read_to_end<From: Format, To: Format>(
+    rt: &impl Print,
     input: &mut impl Read,
     window: &mut [u8],
-    format: Format,
     limit: u8,
-)
+) -> Result<(), Stop>
     requires { 0 < length window.old }
 {
     let mut held: usize = 0;
     for _ in 0..u64::MAX {
-        match read_on(rt, input, window, held, format, limit) {
-            Held::Bytes(n) => held = n,
-            Held::Over => return,
+        match read_on::<From, To>(rt, input, window, held, limit)? {
+            Some(n) => held = n,
+            None => break,
         }
     }
+    Ok(())
 }
 
 // A line that does not fit, its newline included, is too long. The window stands on the stack, of which Linux gives a program 8 MiB unless it is told otherwise.
 const WINDOW: usize = 4194304;
 
-fn convert(rt: &(impl Print + Eprint), input: &mut impl Read, format: Format, limit: u8) {
+fn convert<From: Format, To: Format>(
+    rt: &impl Print,
+    input: &mut impl Read,
+    limit: u8,
+) -> Result<(), Stop> {
     let mut window = [0u8; WINDOW];
-    read_to_end(rt, input, &mut window, format, limit);
+    read_to_end::<From, To>(rt, input, &mut window, limit)
 }
 
 // A limit where none is given.
 const USUAL_LIMIT: u8 = 32;
 
-// One digit more. Every number above the highest limit is taken for the one after it, and so is what is no number.
-fn more(value: u8, c: u8) -> u8 {
-    let none = cpusets::WIDTH + 1;
-    if c < b'0' {
-        return none;
+// The limit that a word says, if it is one.
+fn limit_of(word: &[u8]) -> Option<u8> {
+    // std reads a sign before a number, which no limit has.
+    if word.starts_with(b"+") {
+        return None;
     }
-    if b'9' < c {
-        return none;
-    }
-    let next = 10 * (value as u16) + ((c - b'0') as u16);
-    if next < (none as u16) {
-        next as u8
-    } else {
-        none
-    }
+    let limit = str::from_utf8(word).ok()?.parse().ok()?;
+    (1..=cpusets::WIDTH).contains(&limit).then_some(limit)
 }
 
-fn number(word: &[u8]) -> u8 {
-    let mut value: u8 = 0;
-    let mut i: usize = 0;
-    while i < word.len() {
-        value = more(value, word[i]);
-        i += 1;
+// The limit that the second argument says, or the usual one where it is the last.
+fn limit(env: &impl Env) -> Option<u8> {
+    match host::arg_count(env) {
+        0..=2 => Some(USUAL_LIMIT),
+        3 => {
+            let mut word = [0u8; 64];
+            limit_of(host::arg(env, 2, &mut word))
+        }
+        _ => None,
     }
-    value
-}
-
-// The limit that the second argument says, if there is one; 0 or one above the highest where it says none.
-fn limit(env: &impl Env) -> u8 {
-    if host::arg_count(env) < 3 {
-        return USUAL_LIMIT;
-    }
-    let mut word = [0u8; 64];
-    let length = host::arg(env, 2, &mut word);
-    number(&word[..length])
-}
-
-fn is_format(env: &impl Env, name: &[u8]) -> bool {
-    let mut word = [0u8; 4];
-    let length = host::arg(env, 1, &mut word);
-    &word[..length] == name
 }
 
 fn usage(rt: &impl Eprint) {
     let _ = rt.eprintln("usage: convert list|mask [LIMIT], LIMIT from 1 to 64");
 }
 
+// Says on standard error why the program stops.
+fn tell(rt: &impl Eprint, stop: Stop) {
+    match stop {
+        Stop::Input(error) => host::fail(rt, "standard input", error),
+        Stop::Output(error) => host::fail(rt, "standard output", error),
+        Stop::LineLong => {
+            let _ = rt.eprintln("standard input: a line is too long");
+        }
+    }
+}
+
 fn main(rt: HostRuntime) {
-    let limit = limit(&rt);
-    if 3 < host::arg_count(&rt) || limit == 0 || cpusets::WIDTH < limit {
+    let Some(limit) = limit(&rt) else {
         return usage(&rt);
+    };
+    let mut word = [0u8; 4];
+    let ended = match host::arg(&rt, 1, &mut word) {
+        b"list" => convert::<List, Mask>(&rt, &mut rt.stdin(), limit),
+        b"mask" => convert::<Mask, List>(&rt, &mut rt.stdin(), limit),
+        _ => return usage(&rt),
+    };
+    if let Err(stop) = ended {
+        tell(&rt, stop);
     }
-    if is_format(&rt, b"list") {
-        return convert(&rt, &mut rt.stdin(), Format::List, limit);
-    }
-    if is_format(&rt, b"mask") {
-        return convert(&rt, &mut rt.stdin(), Format::Mask, limit);
-    }
-    usage(&rt);
 }

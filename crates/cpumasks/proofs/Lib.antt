@@ -6,3 +6,4 @@ pub mod Making
 pub mod Same
 pub mod Back
 pub mod Parts
+pub mod Room

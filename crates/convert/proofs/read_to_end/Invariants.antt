@@ -1,6 +1,5 @@
 -- `read_to_end` is safe and ends: what is held back leaves room in the window.
-use Prim.Native.Nat.{◌<◌}
-use lib.ListN.{length}
+use Rattle.std.proofs.Common.{◌<◌, length}
 use Rattle.convert.proofs.read_to_end.Given as goal
 
 abbrev pub invariant-loop : goal.invariant-loop
