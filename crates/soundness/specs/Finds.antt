@@ -1,8 +1,7 @@
 -- What a search for a breach answers.
-use Rattle.std.specs.Prelude.{ℕ, ◌≤◌, ◌<◌}
+use Rattle.std.specs.Prelude.{ℕ, Option, MatchOption}
+use Rattle.laws.specs.Lowest.{Lowest, Throughout}
 
--- k is the lowest of n slots, places or cores that breaks a condition, or n where none does
-pub record Finds (n : ℕ) (Kept : ℕ → Type 0) (k : ℕ) : Type 0 where
-  pub within : k ≤ n
-  pub lower : (j : ℕ) → j < k → Kept j
-  pub breaks : k < n → Kept k → ⊥
+-- the lowest of n slots, places or cores that breaks a condition, or nothing where none does
+abbrev pub Finds : ℕ → (ℕ → Type 0) → Option ℕ → Type 0
+Finds n Kept r = MatchOption r (Throughout n Kept) (Lowest n Kept)

@@ -8,6 +8,10 @@ pub record HeldBelow (l : List ℕ) (k s : ℕ) : Type 0 where
   pub below : place < k
   pub holds : get_or l place none ≡ s
 
--- place k holds the mark, if it is not below `from`
+-- place k holds the mark
+abbrev pub Unused : List ℕ → ℕ → Type 0
+Unused l k = get_or l k none ≡ none
+
+-- it does, if it is not below `from`
 abbrev pub UnusedFrom : List ℕ → ℕ → ℕ → Type 0
-UnusedFrom l from k = from ≤ k → get_or l k none ≡ none
+UnusedFrom l from k = from ≤ k → Unused l k

@@ -1,11 +1,6 @@
 -- `entries` meets its promise: all places below the loop's are entered, and the table tells where among them each slot stands.
-use Prim.Native.Nat.{◌-◌}
-use Rattle.dispatcher.specs.Limits.{slot_limit}
 use Rattle.soundness.specs.Entries.{Entries}
 use Rattle.soundness.proofs.entries.Given as goal
 
 abbrev pub invariant-loop-k : goal.invariant-loop-k
 invariant-loop-k l = Entries l.d l.k l.places
-
-abbrev pub decreases-loop-k : goal.decreases-loop-k
-decreases-loop-k l = slot_limit - l.k

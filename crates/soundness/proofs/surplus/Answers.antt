@@ -1,34 +1,26 @@
--- `surplus` meets its promise: either all places asked for hold the mark, or those up to the loop's do.
+-- `surplus` meets its promise: the first number that is not the mark stands at the lowest place that is used.
+use Prim.Native.Nat.{ℕ, ◌<◌}
 use mathlib.Core.Path.{◌≡◌}
+use mathlib.Core.Logic.{◌≢◌}
+use mathlib.Core.List.{List}
 use native.Mathlib.Omega.{arith}
-use lib.ListN.{get_or}
-use borrow.Author.Count.{below_more}
-use Rattle.laws.proofs.Lists.{get_d_any}
+use lib.ListN.{length}
+use borrow.Author.Rules.{rules}
+use borrow.Author.Tests.{tests}
+use Rattle.std.specs.Prelude.{Option, Some, None, MatchOption}
+use Rattle.std.specs.List.{AllWithin, HoldsAt}
+use Rattle.std.proofs.lemmas.Iterator.{IsFirst-from_position, YieldsList-from_slice}
 use Rattle.dispatcher.specs.Limits.{none}
-use Rattle.soundness.proofs.Finding.{finds_all}
+use Rattle.soundness.specs.Finds.{Finds}
+use Rattle.soundness.specs.Parts.{Unused}
 use Rattle.soundness.proofs.surplus.Goals as goal
 
-pub returns-then-unused : goal.returns-then-unused
-returns-then-unused c = finds_all (c.unused.ensures.yes c.if-unused.true)
-
-pub loop-k-init : goal.loop-k-init
-loop-k-init c = (omega arith, λ j l m. absurd (omega arith))
-
-pub returns-then-list-k-ne-NONE : goal.returns-then-list-k-ne-NONE
-returns-then-list-k-ne-NONE c =
-    let i = c in
-    let read : get_or i.args.list.now i.loop-k.k none ≡ get_or i.args.list.now i.loop-k.k 0 = get_d_any i.args.list.now i.loop-k.k none 0 i.loop-k-test.true in
-    record {
-      within = omega (arith, i.loop-k-test.true);
-      lower = i.loop-k.invariant.1;
-      breaks = λ _ h. omega (arith, c.if-list-k-ne-NONE.true, read, h i.loop-k.invariant.0);
-    }
-
-pub loop-k-preserved : goal.loop-k-preserved
-loop-k-preserved c =
-    let i = c in
-    let read : get_or i.args.list.now i.loop-k.k none ≡ get_or i.args.list.now i.loop-k.k 0 = get_d_any i.args.list.now i.loop-k.k none 0 i.loop-k-test.true in
-    (omega arith, below_more _ _ i.loop-k.invariant.1 (λ _. omega (arith, read, c.if-list-k-ne-NONE.false)))
+finds_first : (l : List ℕ) (r : Option ℕ) → MatchOption r (AllWithin (λ held. held ≡ none) l 0 (length l)) (λ i. (i < length l) × HoldsAt (λ held. held ≢ none) l i × AllWithin (λ held. held ≡ none) l 0 i)
+    → Finds (length l) (Unused l) r
+finds_first l None all = λ k b. all k none (omega arith) b
+finds_first l (Some i) first = record { below = first.0; fails = first.1 none; lower = λ k b. first.2 k none (omega arith) b }
 
 pub returns : goal.returns
-returns c = finds_all (λ j l. c.loop-k.invariant.1 j (omega (arith, l, c.loop-k-test.false)))
+returns c =
+    finds_first c.args.list.now c.position.result
+    (IsFirst-from_position _ _ _ (λ held. held ≢ none) (λ held. held ≡ none) c.position.ensures.ran (YieldsList-from_slice c.args.list.now cc) (λ x q k. search (rules, tests)) (λ x q k. search (rules, tests)))
