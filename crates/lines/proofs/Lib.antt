@@ -1,6 +1,5 @@
-pub mod Pieces
-pub mod Seats
 pub mod Parts
+pub mod Seats
 pub mod Longest
 pub mod Standing
 pub mod Same

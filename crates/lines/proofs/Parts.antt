@@ -21,6 +21,13 @@ pub slot_number : (slot : ℕ) → slot ≢ none → slot_text slot ≡ decimal 
 unfolding slot_text
 slot_number slot n = rw (ne_eqb slot none n)
 
+-- a slot put behind a character
+pub slot_put_dash : (text : List ℕ) {t all : List ℕ} (c slot : ℕ) → slot ≡ none → t ≡ text ++ c ∷ [] → all ≡ t ++ dash ∷ [] → all ≡ text ++ c ∷ slot_text slot
+slot_put_dash text c slot e a b = simp (b, a, slot_dash slot e, append_assoc)
+
+pub slot_put_number : (text : List ℕ) {t all : List ℕ} (c slot : ℕ) → slot ≢ none → t ≡ text ++ c ∷ [] → all ≡ t ++ decimal slot → all ≡ text ++ c ∷ slot_text slot
+slot_put_number text c slot n a b = simp (b, a, slot_number slot n, append_assoc)
+
 pub event_length : (l : Line) → length (joined space (event_fields l)) ≡ 3 + (length (decimal l.number) + length (decimal l.slot))
 event_length l = simp (length-append, append-nil) (omega arith)
 
@@ -39,3 +46,8 @@ four_length a b c d = simp length-append
 pub line_length : (l : Line) (seats : List ℕ)
     → length (line_text l seats) ≡ length (joined space (event_fields l)) + (length (each_after space (report_fields l.report)) + (length (space ∷ seats_text seats) + 1))
 line_length l seats = ap length (line_pieces l seats) ∙ four_length (joined space (event_fields l)) (each_after space (report_fields l.report)) (space ∷ seats_text seats) (newline ∷ [])
+
+-- the parts, put one after the other behind a text
+pub line_put : (text : List ℕ) {t1 t2 t3 all : List ℕ} (l : Line) (seats : List ℕ) → t1 ≡ text ++ joined space (event_fields l)
+    → t2 ≡ t1 ++ each_after space (report_fields l.report) → t3 ≡ t2 ++ space ∷ seats_text seats → all ≡ t3 ++ newline ∷ [] → all ≡ text ++ line_text l seats
+line_put text l seats a b c d = rw (d, c, b, a, line_pieces l seats) (simp append_assoc)

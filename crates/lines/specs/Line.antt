@@ -1,14 +1,13 @@
 -- Document 01: what the line writer refuses, and which bytes the lent buffer has afterwards.
-use Rattle.std.specs.Prelude.{ℕ, ◌≤◌, ◌<◌, ◌≡◌, ◌≢◌, List, [], ◌∷◌, ◌++◌, length, take, drop}
+use Rattle.std.specs.Prelude.{ℕ, ◌≤◌, ◌<◌, ◌≡◌, List, [], ◌∷◌, ◌++◌, length, take, drop, Result, Ok, Err, IfOk, OnOk, OnErr}
 use Rattle.laws.specs.Answering.{Refusal, ◌when◌, Answers}
 use Rattle.decimals.specs.Fault.{fault_text}
-use Rattle.dispatcher.specs.Answers.{number_of}
+use Rattle.dispatcher.specs.Answers.{Answer, number_of}
 use Rattle.dispatcher.specs.Unsound.{unsound_refusals}
 use Rattle.dispatcher.specs.Promise.{Answered}
-use Rattle.dispatcher.specs.declared.Answer.{Answer}
+use Rattle.dispatcher.specs.declared.Refusal.{Refusal as Reason}
 use Rattle.dispatcher.specs.declared.Dispatcher.{Dispatcher}
 use Rattle.lines.specs.declared.Line.{Line}
-use Rattle.lines.specs.declared.Written.{Written}
 use Rattle.lines.specs.Text.{line_text}
 
 abbrev pub IsLineKind : ℕ → Type 0
@@ -33,14 +32,21 @@ line_refusals l d buffer = unsound_refusals d ++ text_refusals l d buffer
 abbrev pub SaysLong : List ℕ → List ℕ → Answer → Type 0
 SaysLong text buffer a = Answers (15 when IsLong text buffer ∷ []) (number_of a)
 
+-- the length of what was written, or why nothing was
+abbrev pub Written : Type 0
+Written = Result ℕ Reason
+
+abbrev pub answer_of : Written → Answer
+answer_of (Ok n) = Ok tt
+answer_of (Err r) = Err r
+
 -- the answer is what Says allows. Accepted: the text stands at the buffer's start, no other byte changes, and its length is returned;
--- refused: length 0 and no byte changes
+-- refused: no byte changes
 pub record Stands (Says : Answer → Type 0) (text before after : List ℕ) (r : Written) : Type 0 where
-  pub answer : Says r.answer
-  pub length_told : number_of r.answer ≡ 0 → r.length ≡ length text
-  pub written : number_of r.answer ≡ 0 → after ≡ text ++ drop (length text) before
-  pub nothing : number_of r.answer ≢ 0 → r.length ≡ 0
-  pub kept : number_of r.answer ≢ 0 → after ≡ before
+  pub answer : Says (answer_of r)
+  pub length_told : IfOk r (λ n. n ≡ length text)
+  pub written : OnOk r (after ≡ text ++ drop (length text) before)
+  pub kept : OnErr r (after ≡ before)
 
 abbrev pub Writes : Line → Dispatcher → List ℕ → List ℕ → Written → Type 0
 Writes l d before after r = Stands (Answered (line_refusals l d before) d) (text_of l d) before after r

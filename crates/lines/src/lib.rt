@@ -1,14 +1,14 @@
 // Writes report lines as text into lent bytes.
 #![tactic(auto)]
 
-ghost use Rattle.std.specs.Prelude.{◌+◌, ◌≤◌, ◌≡◌, ◌∷◌, length, take};
-ghost use Rattle.texts.specs.Put.{Puts};
+ghost use Rattle.std.specs.Prelude.{◌+◌, ◌≤◌, ◌≡◌, ◌∷◌, ◌++◌, length, take};
 ghost use Rattle.texts.specs.Joined.{space, each_after, joined};
 ghost use Rattle.dispatcher.specs.Limits.{LegalCount};
 ghost use Rattle.lines.specs.Text.{letter_of, slot_text, event_fields, report_fields, seats_text, line_text};
-ghost use Rattle.lines.specs.Line.{IsLineKind, SaysLong, Stands, Writes, WritesFault};
+ghost use Rattle.lines.specs.Line.{IsLineKind, Stands, Writes, WritesFault};
 
-use dispatcher::{Answer, Dispatcher, PlainReport};
+use arrayvec::ArrayVec;
+use dispatcher::{Dispatcher, PlainReport, Refusal};
 
 // What a line says besides the seats. The kind is 0 to 3 for create, wake, block, delete.
 #[repr(C)]
@@ -28,130 +28,105 @@ impl Line {
     pub const LONGEST_FAULT: usize = decimals::LONGEST_FAULT;
 }
 
-#[derive(Clone, Copy)]
-pub struct Written {
-    pub answer: Answer,
-    pub length: usize,
-}
+type Text = ArrayVec<u8, { Line::LONGEST }>;
 
 fn letter(kind: u8) -> u8
     requires { IsLineKind kind }
     ensures { result ≡ letter_of kind }
 {
-    if kind == 0 {
-        return b'C';
+    match kind {
+        0 => b'C',
+        1 => b'W',
+        2 => b'B',
+        _ => b'D',
     }
-    if kind == 1 {
-        return b'W';
-    }
-    if kind == 2 {
-        return b'B';
-    }
-    b'D'
 }
 
 // A character, and a slot or `-`.
-fn put_slot(text: &mut [u8], at: usize, c: u8, slot: u16) -> usize
-    requires { at + length (c ∷ slot_text slot) ≤ length text.old }
-    ensures { Puts (c ∷ slot_text slot) at text.old text.new result }
+#[tactic(auto, using(crate::proofs::Parts::slot_dash, crate::proofs::Parts::slot_number, crate::proofs::Parts::slot_put_dash, crate::proofs::Parts::slot_put_number))]
+fn put_slot(text: &mut Text, c: u8, slot: u16)
+    requires { length text.old.items + length (c ∷ slot_text slot) ≤ Line.LONGEST }
+    ensures items { text.new.items ≡ text.old.items ++ c ∷ slot_text slot }
+    ensures len { length text.new.items ≡ length text.old.items + length (c ∷ slot_text slot) }
 {
-    let next = texts::put_byte(text, at, c);
+    text.push(c);
     if slot == Dispatcher::NONE {
-        return texts::put_byte(text, next, b'-');
+        text.push(b'-');
+    } else {
+        decimals::put(text, u64::from(slot));
     }
-    decimals::put(text, next, slot as u64)
 }
 
 // A space, and the seats of the cores, joined by commas.
-fn put_seats(text: &mut [u8], at: usize, seats: [u16; Dispatcher::CORES], cores: usize) -> usize
-    requires { LegalCount cores × (at + length (space ∷ seats_text (take cores seats)) ≤ length text.old) }
-    ensures { Puts (space ∷ seats_text (take cores seats)) at text.old text.new result }
+#[tactic(auto, using(crate::proofs::Seats::seats_room, crate::proofs::Seats::seats_length))]
+fn put_seats(text: &mut Text, seats: &[u16])
+    requires { LegalCount (length seats.now) × (length text.old.items + length (space ∷ seats_text seats.now) ≤ Line.LONGEST) }
+    ensures items { text.new.items ≡ text.old.items ++ space ∷ seats_text seats.now }
+    ensures len { length text.new.items ≡ length text.old.items + length (space ∷ seats_text seats.now) }
 {
-    let mut next = put_slot(text, at, b' ', seats[0]);
-    let mut c: usize = 1;
-    while c < cores {
-        next = put_slot(text, next, b',', seats[c]);
-        c += 1;
+    put_slot(text, b' ', seats[0]);
+    for seat in &seats[1..] {
+        put_slot(text, b',', *seat);
     }
-    next
 }
 
-// The event at the start of the text: running number, letter and slot.
-fn put_event(text: &mut [u8], line: Line) -> usize
-    requires { IsLineKind line.kind × (length (joined space (event_fields line)) ≤ length text.old) }
-    ensures { Puts (joined space (event_fields line)) 0 text.old text.new result }
+// The event: running number, letter and slot.
+fn put_event(text: &mut Text, line: Line)
+    requires { IsLineKind line.kind × (length text.old.items + length (joined space (event_fields line)) ≤ Line.LONGEST) }
+    ensures items { text.new.items ≡ text.old.items ++ joined space (event_fields line) }
+    ensures len { length text.new.items ≡ length text.old.items + length (joined space (event_fields line)) }
 {
-    let number = decimals::put(text, 0, line.number as u64);
-    let gap = texts::put_byte(text, number, b' ');
-    let kind = texts::put_byte(text, gap, letter(line.kind));
-    decimals::put_spaced(text, kind, line.slot as u64)
+    decimals::put(text, u64::from(line.number));
+    text.push(b' ');
+    text.push(letter(line.kind));
+    decimals::put_spaced(text, u64::from(line.slot));
 }
 
 // Each field of the report after a space.
-fn put_report(text: &mut [u8], at: usize, report: PlainReport) -> usize
-    requires { at + length (each_after space (report_fields report)) ≤ length text.old }
-    ensures { Puts (each_after space (report_fields report)) at text.old text.new result }
+fn put_report(text: &mut Text, report: PlainReport)
+    requires { length text.old.items + length (each_after space (report_fields report)) ≤ Line.LONGEST }
+    ensures items { text.new.items ≡ text.old.items ++ each_after space (report_fields report) }
+    ensures len { length text.new.items ≡ length text.old.items + length (each_after space (report_fields report)) }
 {
-    let answer = decimals::put_spaced(text, at, report.number as u64);
-    let moves = decimals::put_spaced(text, answer, report.moves as u64);
-    let started = put_slot(text, moves, b' ', report.started);
-    put_slot(text, started, b' ', report.stopped)
+    decimals::put_spaced(text, u64::from(report.number));
+    decimals::put_spaced(text, u64::from(report.moves));
+    put_slot(text, b' ', report.started);
+    put_slot(text, b' ', report.stopped);
 }
 
-// A whole line at the start of the text.
-fn put_line(text: &mut [u8], line: Line, seats: [u16; Dispatcher::CORES], cores: usize) -> usize
-    requires { IsLineKind line.kind × LegalCount cores × (length (line_text line (take cores seats)) ≤ length text.old) }
-    ensures { Puts (line_text line (take cores seats)) 0 text.old text.new result }
+// A whole line.
+#[tactic(auto, using(crate::proofs::Parts::line_length, crate::proofs::Parts::line_put))]
+fn put_line(text: &mut Text, line: Line, seats: &[u16])
+    requires { IsLineKind line.kind × LegalCount (length seats.now) × (length text.old.items + length (line_text line seats.now) ≤ Line.LONGEST) }
+    ensures { text.new.items ≡ text.old.items ++ line_text line seats.now }
 {
-    let event = put_event(text, line);
-    let report = put_report(text, event, line.report);
-    let all = put_seats(text, report, seats, cores);
-    texts::put_byte(text, all, b'\n')
-}
-
-// Hands a text over, and answers 15 where there was no room.
-fn hand_over(text: &[u8], size: usize, buffer: &mut [u8]) -> Written
-    requires { size ≤ length text.now }
-    ensures { Stands (SaysLong (take size text.now) buffer.old) (take size text.now) buffer.old buffer.new result }
-{
-    if !texts::hand_over(text, size, buffer) {
-        return Written {
-            answer: Answer::LineLong,
-            length: 0,
-        };
-    }
-    Written {
-        answer: Answer::Done,
-        length: size,
-    }
+    put_event(text, line);
+    put_report(text, line.report);
+    put_seats(text, seats);
+    text.push(b'\n');
 }
 
 // One line, with the seats of the dispatcher.
-pub fn write(line: Line, d: Dispatcher, buffer: &mut [u8]) -> Written
+#[tactic(auto, using(crate::proofs::Standing::writes_unsound, crate::proofs::Standing::writes_bad_kind))]
+pub fn write(line: Line, d: Dispatcher, buffer: &mut [u8]) -> Result<usize, Refusal>
     ensures { Writes line d buffer.old buffer.new result }
 {
-    let answer = soundness::check(d);
-    if answer.number() != 0 {
-        return Written { answer, length: 0 };
-    }
+    soundness::check(d)?;
     if 3 < line.kind {
-        return Written {
-            answer: Answer::BadKind,
-            length: 0,
-        };
+        return Err(Refusal::BadKind);
     }
-    let mut text = [0u8; Line::LONGEST];
-    let seats = d.seats;
-    let cores = d.cores as usize;
-    let size = put_line(&mut text, line, seats, cores);
-    hand_over(&text, size, buffer)
+    let mut text = ArrayVec::new();
+    let seats = &d.seats[..usize::from(d.cores)];
+    put_line(&mut text, line, seats);
+    texts::hand_over(&text, buffer).ok_or(Refusal::LineLong)
 }
 
 // The one line of a refused file.
-pub fn write_fault(number: u8, offset: usize, buffer: &mut [u8]) -> Written
+#[tactic(auto, using(decimals::proofs::Fault::fault_longest, crate::proofs::Standing::stands_handed))]
+pub fn write_fault(number: u8, offset: usize, buffer: &mut [u8]) -> Result<usize, Refusal>
     ensures { WritesFault number offset buffer.old buffer.new result }
 {
-    let mut text = [0u8; Line::LONGEST_FAULT];
-    let size = decimals::put_fault(&mut text, number, offset);
-    hand_over(&text, size, buffer)
+    let mut fault = ArrayVec::<u8, { Line::LONGEST_FAULT }>::new();
+    decimals::put_fault(&mut fault, number, offset);
+    texts::hand_over(&fault, buffer).ok_or(Refusal::LineLong)
 }

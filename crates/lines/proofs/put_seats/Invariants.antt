@@ -1,10 +1,7 @@
--- `put_seats` meets its contract. The loop's invariant: behind the first seat, those passed are written, and the room was enough for all. The measure is what is left of the cores.
-use Prim.Native.Nat.{◌-◌}
-use Rattle.lines.proofs.Seats.{SeatsPut}
+-- The loop's invariant: behind the first seat, those passed are written, each behind a comma.
+use Rattle.std.proofs.Common.{◌≡◌, ◌++◌, take}
+use Rattle.lines.proofs.Seats.{commas}
 use Rattle.lines.proofs.put_seats.Given as goal
 
-abbrev pub invariant-loop-c : goal.invariant-loop-c
-invariant-loop-c l = SeatsPut l.seats l.cores l.initial.next l.initial.text l.text l.next l.c
-
-abbrev pub decreases-loop-c : goal.decreases-loop-c
-decreases-loop-c l = l.cores - l.c
+abbrev pub invariant-loop-seat : goal.invariant-loop-seat
+invariant-loop-seat l = l.text.items ≡ l.initial.text.items ++ commas (take l.seat-index l.seat-items)

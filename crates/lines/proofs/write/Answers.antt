@@ -1,30 +1,23 @@
--- `write` meets its promise: refused for what is unsound or for 14 it writes nothing, and else it hands the line over that it has made in its own bytes.
-use mathlib.Core.Path.{refl, sym, ◌∙◌}
-use native.Mathlib.Omega.{arith}
-use borrow.Author.Rules.{rules}
-use Rattle.texts.proofs.Putting.{puts_read}
+-- `write` meets its promise: what it hands over is the line that it has made in its own bytes, and those are enough for every line of a sound dispatcher.
+use Rattle.std.proofs.Common.{◌≡◌, refl, length-take-le, arith, rules}
+use Rattle.dispatcher.specs.Sound.{Sound}
 use Rattle.dispatcher.proofs.Unsound.{done_sound}
 use Rattle.lines.proofs.Longest.{Wide, line_longest}
-use Rattle.lines.proofs.Standing.{writes_unsound, writes_bad_kind, writes_handed}
+use Rattle.lines.specs.Line.{text_of}
+use Rattle.lines.proofs.Standing.{writes_handed}
 use Rattle.lines.proofs.write.Goals as goal
 
-pub returns-then-number-ne0 : goal.returns-then-number-ne0
-returns-then-number-ne0 c = writes_unsound _ _ c.check-answer.ensures (λ z. c.if-number-ne0.true (c.number.ensures ∙ z)) refl
+pub shared_ref_as_front-seats : goal.shared_ref_as_front-seats
+shared_ref_as_front-seats c = let S : Sound c.args.d = done_sound c.args.d c.in_ok-check.ensures.answer refl in omega (arith, S.count)
 
-pub returns-then-line-gt3 : goal.returns-then-line-gt3
-returns-then-line-gt3 c = writes_bad_kind _ _ (done_sound c.args.d c.check-answer.ensures.answer (sym c.number.ensures ∙ c.if-number-ne0.false)) (λ k. omega arith)
-
-pub put_line-size-requires : goal.put_line-size-requires
-put_line-size-requires c =
+pub put_line-requires : goal.put_line-requires
+put_line-requires c =
+    let S : Sound c.args.d = done_sound c.args.d c.in_ok-check.ensures.answer refl in
     let wide : Wide c.args.line = record { number = omega arith; slot = omega arith; answer = omega arith; moves = omega arith; started = omega arith; stopped = omega arith } in
-    (omega arith, (done_sound c.args.d c.check-answer.ensures.answer (sym c.number.ensures ∙ c.if-number-ne0.false)).count, line_longest c.args.line c.args.d wide (done_sound c.args.d c.check-answer.ensures.answer (sym c.number.ensures ∙ c.if-number-ne0.false)) (search rules))
-
-pub hand_over-requires : goal.hand_over-requires
-hand_over-requires c =
-    let wide : Wide c.args.line = record { number = omega arith; slot = omega arith; answer = omega arith; moves = omega arith; started = omega arith; stopped = omega arith } in
-    omega (arith, line_longest c.args.line c.args.d wide (done_sound c.args.d c.check-answer.ensures.answer (sym c.number.ensures ∙ c.if-number-ne0.false)) (search rules))
+    let longest = line_longest c.args.line c.args.d wide S (search rules) in
+    rw (c.new-text.ensures, c.from.ensures) (omega arith, omega (arith, S.count, length-take-le c.args.d.cores c.args.d.seats (search rules)), omega arith)
 
 pub returns : goal.returns
 returns c =
-    let p = c in
-    writes_handed _ _ (done_sound c.args.d c.check-answer.ensures.answer (sym c.number.ensures ∙ c.if-number-ne0.false)) (omega arith) (rw (puts_read p.put_line-size.ensures) at c.hand_over.ensures)
+    let told : c.deref.result.now ≡ text_of c.args.line c.args.d = rw (c.deref.ensures.0, c.put_line.ensures, c.new-text.ensures, c.from.ensures) refl in
+    writes_handed _ _ c.hand_over.ensures told c.ok_or.ensures.value c.in_ok-check.ensures (omega arith)
