@@ -17,14 +17,14 @@ ghost use Rattle.soundness.specs.Parts.{Unused};
 
 use dispatcher::{Dispatcher, Refusal, Task};
 
-// An empty slot, as most are, is passed after two tests.
+// Whether the task is none or legal. An empty slot, as most are, is passed after two tests.
 fn is_kept(task: Task, cores: u8) -> bool
     ensures { Decides (Used task → LegalTask cores task) result }
 {
-    if task.priority == 0 {
-        task.mask == 0
-    } else {
-        task.mask != 0 && !masks::names_missing(u64::from(task.mask), cores)
+    match (task.priority, task.mask) {
+        (0, 0) => true,
+        (0, _) | (_, 0) => false,
+        (_, mask) => !masks::names_missing(u64::from(mask), cores),
     }
 }
 
