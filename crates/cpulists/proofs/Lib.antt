@@ -7,6 +7,7 @@ pub mod Verdicts
 pub mod Pieces
 pub mod Gathering
 pub mod Spanning
+pub mod Lowest
 pub mod RunText
 pub mod Ascending
 pub mod Written

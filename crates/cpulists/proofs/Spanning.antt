@@ -1,36 +1,34 @@
--- The cores from one on, put into a set one by one.
-use Prim.Native.Nat.{ℕ, ◌+◌, ◌*◌, ◌%◌, ◌^◌, ◌≤◌, ◌<◌}
-use mathlib.Core.Path.{◌≡◌, sym}
-use mathlib.Core.Logic.{◌⊎◌, inl, inr}
-use mathlib.Core.Bool.{true}
-use native.Mathlib.Decide.{ℕ_discrete}
+-- The cores from one to another, made by shifts of the word that has every core.
+use Prim.Native.Nat.{ℕ, ◌+◌, ◌-◌, ◌*◌, ◌/◌, ◌%◌, ◌^◌, ◌≤◌, ◌<◌}
+use mathlib.Core.Path.{◌≡◌, ap, ◌∙◌}
+use native.Mathlib.Decide.{dec_lt}
+use native.Mathlib.Nat.{mul_comm, mod-eq_of_lt}
 use native.Mathlib.Omega.{arith}
-use lib.Bits.{bit_or}
+use lib.Pow.{pow_mono, pow_pos, pow-add}
+use Rattle.std.proofs.Math.Nat.{mul-sub}
+use Rattle.std.proofs.lemmas.Nat.Bits.{ones_shr, bit_at_mask_inside, bit_at_mask_below, bit_at_mask_above}
 use Rattle.laws.specs.Decides.{Decides}
-use Rattle.laws.proofs.Deciding.{decides_is, decides_by, decides_or, decides_eq}
+use Rattle.laws.proofs.Deciding.{decides_true, decides_false}
 use Rattle.masks.specs.Masks.{has}
-use Rattle.masks.proofs.Operators.{has_or, has_power, shl_one}
 use Rattle.cpusets.specs.Limit.{set_bits}
 use Rattle.cpulists.specs.Progress.{Spans}
 
--- r has the cores of a set and those from first up to c
-pub record SpansTo (set first c r : ℕ) : Type 0 where
-  pub each : (k : ℕ) → Decides ((has set k ≡ true) ⊎ ((first ≤ k) × (k < c))) (has r k)
-
-pub span_more : {set first c r : ℕ} → first ≤ c → c < set_bits → SpansTo set first c r → SpansTo set first (c + 1) (bit_or r (1 * 2 ^ c % 2 ^ set_bits))
-span_more {set} {first} {c} {r} l b s = record {
-  each = λ k. decides_is (sym (rw (shl_one set_bits c b) (rw (← has_power c k) (has_or r _ k)))) (decides_by (to k) (from k (ℕ_discrete k c)) (decides_or (s.each k) (decides_eq k c)));
-}
+span_value : (f l : ℕ) → f ≤ l → l < set_bits → (2 ^ set_bits - 1) / 2 ^ (63 - (l - f)) * 2 ^ f % 2 ^ set_bits ≡ 2 ^ (l + 1) - 2 ^ f
+span_value f l o b = rw (ones_shr set_bits (63 - (l - f)) (omega arith), whole) (mod-eq_of_lt (omega (arith, pow_mono top, pow_pos f)))
   where
-    to : (k : ℕ) → ((has set k ≡ true) ⊎ ((first ≤ k) × (k < c))) ⊎ (k ≡ c) → (has set k ≡ true) ⊎ ((first ≤ k) × (k < c + 1))
-    to k (inl (inl y)) = inl y
-    to k (inl (inr h)) = inr (h.0, omega (arith, h.1))
-    to k (inr e) = inr (omega arith, omega arith)
+    many : set_bits - (63 - (l - f)) + f ≡ l + 1
+    many = omega arith
 
-    from : (k : ℕ) → Dec (k ≡ c) → (has set k ≡ true) ⊎ ((first ≤ k) × (k < c + 1)) → ((has set k ≡ true) ⊎ ((first ≤ k) × (k < c))) ⊎ (k ≡ c)
-    from k d (inl y) = inl (inl y)
-    from k (yes e) (inr h) = inr e
-    from k (no n) (inr h) = inl (inr (h.0, omega (arith, h.1)))
+    top : l + 1 ≤ set_bits
+    top = omega arith
 
-pub span_all : {set first last c r : ℕ} → c ≡ last + 1 → SpansTo set first c r → Spans set first last r
-span_all e s = record { each = λ k. decides_by (λ h. elim h [ inl y ↦ inl y | inr l ↦ inr (l.0, omega (arith, l.1)) ]) (λ h. elim h [ inl y ↦ inl y | inr l ↦ inr (l.0, omega (arith, l.1)) ]) (s.each k) }
+    whole : (2 ^ (set_bits - (63 - (l - f))) - 1) * 2 ^ f ≡ 2 ^ (l + 1) - 2 ^ f
+    whole = mul_comm _ (2 ^ f) ∙ mul-sub (2 ^ f) (2 ^ (set_bits - (63 - (l - f)))) 1 ∙ omega (arith, pow-add 2 (set_bits - (63 - (l - f))) f, ap (λ (k : ℕ). 2 ^ k) many)
+
+pub span_lem : {f l : ℕ} → f ≤ l → l < set_bits → Spans f l ((2 ^ set_bits - 1) / 2 ^ (63 - (l - f)) * 2 ^ f % 2 ^ set_bits)
+span_lem {f} {l} o b = record { each = λ c. rw (span_value f l o b) (go c (dec_lt c f) (dec_lt c (l + 1))) }
+  where
+    go : (c : ℕ) → Dec (c < f) → Dec (c < l + 1) → Decides ((f ≤ c) × (c ≤ l)) (has (2 ^ (l + 1) - 2 ^ f) c)
+    go c (yes p) d = rw (bit_at_mask_below f (l + 1) c p) (decides_false (λ h. omega (arith, h.0)))
+    go c (no p) (yes q) = rw (bit_at_mask_inside f (l + 1) c (omega arith) q) (decides_true (omega arith, omega arith))
+    go c (no p) (no q) = rw (bit_at_mask_above f (l + 1) c (omega arith)) (decides_false (λ h. omega (arith, h.1)))

@@ -1,5 +1,5 @@
 -- How far a List text is read or written: what the steps of the reader and the writer promise one another.
-use Rattle.std.specs.Prelude.{ℕ, ◌+◌, ◌*◌, ◌≤◌, ◌<◌, min, ◌≡◌, ◌≢◌, ◌⊎◌, true, cond, List, [], ◌∷◌, ◌++◌, eqb, length, take, drop, Result, Ok, Err}
+use Rattle.std.specs.Prelude.{ℕ, ◌+◌, ◌*◌, ◌≤◌, ◌<◌, min, ◌≡◌, ◌≢◌, true, false, cond, List, [], ◌∷◌, ◌++◌, eqb, length, take, drop, Result, Ok, Err}
 use Rattle.laws.specs.Decides.{Decides}
 use Rattle.laws.specs.Lists.{All, Any}
 use Rattle.masks.specs.Masks.{has}
@@ -106,9 +106,17 @@ pub record WalksOn (n : ℕ) (t : List ℕ) (at : ℕ) (w : Walk) : Type 0 where
 abbrev pub Walks : ℕ → List ℕ → ℕ → Result Walk Fault → Type 0
 Walks n t at = OrFault n t (WalksOn n t at)
 
--- the cores from first to last, put into a set
-pub record Spans (set first last r : ℕ) : Type 0 where
-  pub each : (c : ℕ) → Decides ((has set c ≡ true) ⊎ ((first ≤ c) × (c ≤ last))) (has r c)
+-- the cores from first to last, and no other
+pub record Spans (first last r : ℕ) : Type 0 where
+  pub each : (c : ℕ) → Decides ((first ≤ c) × (c ≤ last)) (has r c)
+
+-- a set has the cores from first to last, and neither one below them nor the one after them
+pub record LowestRun (s first last : ℕ) : Type 0 where
+  pub forward : first ≤ last
+  pub within : last < set_bits
+  pub before : (c : ℕ) → c < first → has s c ≡ false
+  pub each : (c : ℕ) → first ≤ c → c ≤ last → has s c ≡ true
+  pub after : has s (last + 1) ≡ false
 
 -- the comma before a run's text, where another stands before it
 abbrev pub comma_text : ℕ → List ℕ

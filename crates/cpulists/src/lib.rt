@@ -5,7 +5,7 @@ ghost use Rattle.std.specs.Prelude.{◌+◌, ◌*◌, ◌≤◌, ◌<◌, ◌++�
 ghost use Rattle.cpusets.specs.Limit.{set_bits, cores_of};
 ghost use Rattle.cpulists.specs.List.{ListOf};
 ghost use Rattle.cpulists.specs.Promise.{ReadsList, WritesList};
-ghost use Rattle.cpulists.specs.Progress.{ReadsNumber, Wants, FindsNumber, Opens, ReadTo, ReadsPiece, Spans, Walks, comma_text, run_text, list_room};
+ghost use Rattle.cpulists.specs.Progress.{ReadsNumber, Wants, FindsNumber, Opens, ReadTo, ReadsPiece, Spans, Walks, LowestRun, run_text, list_room};
 
 use arrayvec::ArrayVec;
 use cpusets::{Fault, Refusal};
@@ -35,6 +35,13 @@ struct Walk {
     set: u64,
 }
 
+// Cores without a gap, from the first to the last.
+#[derive(Clone, Copy)]
+struct Run {
+    first: u8,
+    last: u8,
+}
+
 // A text, and how many cores there may be.
 #[derive(Clone, Copy)]
 struct Reader<'a> {
@@ -48,10 +55,7 @@ impl Reader<'_> {
     fn more(&self, value: u8, digit: u8) -> u8
         ensures { result ≡ min (10 * value + digit) self.now.cores }
     {
-        value
-            .saturating_mul(10)
-            .saturating_add(digit)
-            .min(self.cores)
+        (10 * u16::from(value) + u16::from(digit)).min(u16::from(self.cores)) as u8
     }
 
     fn digits(&self, at: usize) -> Number
@@ -126,7 +130,7 @@ impl Reader<'_> {
         ensures { Walks self.now.cores self.now.text.now walk.place result }
     {
         let item = self.item(walk.place)?;
-        let set = span(walk.set, item.first, item.last);
+        let set = walk.set | span(item.first, item.last);
         match &self.text[item.end..] {
             [] => Ok(Walk {
                 place: item.end,
@@ -148,15 +152,12 @@ impl Reader<'_> {
     }
 }
 
-// The set with the cores from first to last.
-fn span(mut set: u64, first: u8, last: u8) -> u64
+// The cores from first to last.
+fn span(first: u8, last: u8) -> u64
     requires { (first ≤ last) × (last < set_bits) }
-    ensures { Spans set first last result }
+    ensures { Spans first last result }
 {
-    for core in first..=last {
-        set |= 1 << core;
-    }
-    set
+    (u64::MAX >> (63 - (last - first))) << first
 }
 
 // The set that a List text means.
@@ -175,18 +176,31 @@ pub fn read(text: &[u8], limit: u8) -> Result<u64, Fault>
     Ok(walk.set)
 }
 
+// The lowest run of a set: its lowest core, and those behind it up to the first that it has not.
+fn lowest_run(set: u64) -> Run
+    requires { 0 < set }
+    ensures { LowestRun set result.first result.last }
+{
+    let first = set.trailing_zeros() as u8;
+    let cores = (set >> first).trailing_ones() as u8;
+    Run {
+        first,
+        last: first + cores - 1,
+    }
+}
+
 // A run of cores, after a comma where it is not the first.
-fn put_run(text: &mut ArrayVec<u8, ROOM>, first: u8, last: u8)
-    requires { length text.old.items + length (run_text (length text.old.items) (record { first = first; last = last })) ≤ list_room }
-    ensures { text.new.items ≡ text.old.items ++ run_text (length text.old.items) (record { first = first; last = last }) }
+fn put_run(text: &mut ArrayVec<u8, ROOM>, run: Run)
+    requires { length text.old.items + length (run_text (length text.old.items) (record { first = run.first; last = run.last })) ≤ list_room }
+    ensures { text.new.items ≡ text.old.items ++ run_text (length text.old.items) (record { first = run.first; last = run.last }) }
 {
     if !text.is_empty() {
         text.push(b',');
     }
-    decimals::put(text, u64::from(first));
-    if first != last {
+    decimals::put(text, u64::from(run.first));
+    if run.first != run.last {
         text.push(b'-');
-        decimals::put(text, u64::from(last));
+        decimals::put(text, u64::from(run.last));
     }
 }
 
@@ -195,16 +209,12 @@ fn list_of(set: u64) -> ArrayVec<u8, ROOM>
     ensures { ListOf set result.items }
 {
     let mut text = ArrayVec::new();
-    let mut first = 0;
-    // A run ends before each core that the set has not, and no set has the core after the last.
-    for core in 0..=cpusets::WIDTH {
-        if masks::has(set, usize::from(core)) {
-            continue;
-        }
-        if first < core {
-            put_run(&mut text, first, core - 1);
-        }
-        first = core + 1;
+    let mut left = set;
+    // A turn takes the lowest run out, so that there are as many turns as runs, where a `for` over the cores has 64.
+    while left != 0 {
+        let run = lowest_run(left);
+        put_run(&mut text, run);
+        left &= !span(run.first, run.last);
     }
     text
 }

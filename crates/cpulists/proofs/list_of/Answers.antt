@@ -1,19 +1,18 @@
--- `list_of` meets its contract: where a run ends it is written, and at the end none is left.
-use native.Mathlib.Omega.{arith}
-use Rattle.std.proofs.lemmas.Grind.{common_steps}
-use Rattle.cpulists.proofs.Listing.{listed_past, run_room, listed_more, listed_end}
+-- `list_of` meets its contract: run after run is written, until none is left.
+use Rattle.cpulists.proofs.Listing.{listed_start, run_room, listed_more, less_left, listed_end}
 use Rattle.cpulists.proofs.list_of.Goals as goal
-use Rattle.cpulists.proofs.list_of.Goals.{then-first-core, else-first-core}
+
+pub loop-left-init : goal.loop-left-init
+loop-left-init c = listed_start c.new-text.ensures
 
 pub put_run-requires : goal.put_run-requires
-put_run-requires c = run_room c.loop-core.invariant (grind (arith, common_steps)) c.if-first-core.true (omega arith)
+put_run-requires c = run_room c.loop-left.invariant c.lowest_run-run.ensures
 
-pub loop-core-preserved : goal.loop-core-preserved
-loop-core-preserved c =
-    elim c.if-first-core.branch [
-      | then-first-core w ↦ rw w.text-is (listed_more c.loop-core.invariant (grind (arith, common_steps)) w.if-first-core.true (omega arith) w.put_run.ensures)
-      | else-first-core w ↦ rw w.text-is (listed_past c.loop-core.invariant (grind (arith, common_steps)) (omega (arith, c.loop-core.invariant.within)))
-    ]
+pub loop-left-smaller : goal.loop-left-smaller
+loop-left-smaller c = less_left c.loop-left.invariant c.lowest_run-run.ensures c.loop-left.auto.left-fits.fits c.span.type_inv c.span.ensures
+
+pub loop-left-preserved : goal.loop-left-preserved
+loop-left-preserved c = listed_more c.loop-left.invariant c.lowest_run-run.ensures c.loop-left.auto.left-fits.fits c.span.type_inv c.span.ensures c.put_run.ensures
 
 pub returns : goal.returns
-returns c = listed_end c.ranges.set.fits c.loop-core.invariant (omega arith)
+returns c = listed_end c.loop-left-test.false c.loop-left.invariant

@@ -1,10 +1,6 @@
--- `span` meets its contract: each turn adds one core.
-use native.Mathlib.Omega.{arith}
-use Rattle.cpulists.proofs.Spanning.{span_more, span_all}
+-- `span` meets its contract: of the word that has every core, as many are kept as are wanted, and moved to the first.
+use Rattle.cpulists.proofs.Spanning.{span_lem}
 use Rattle.cpulists.proofs.span.Goals as goal
 
-pub loop-core-preserved : goal.loop-core-preserved
-loop-core-preserved c = span_more c.loop-core.auto.core (omega arith) c.loop-core.invariant
-
-pub returns-2 : goal.returns-2
-returns-2 c = span_all (omega arith) (span_more c.loop-core.auto.core (omega arith) c.loop-core.invariant)
+pub returns : goal.returns
+returns c = span_lem c.requires.0 c.requires.1
