@@ -1,30 +1,21 @@
--- A list is filled from its first entry on.
-use Prim.Native.Nat.{ℕ, ◌+◌, ◌≤◌, ◌<◌}
-use mathlib.Core.Path.{◌≡◌}
+-- An array that a closure fills: each entry is what the call at its index gave.
+use Prim.Native.Nat.{ℕ, zero, suc, ◌+◌, ◌≤◌, ◌<◌}
+use mathlib.Core.Path.{◌≡◌, refl}
 use mathlib.Core.List.{List}
 use native.Mathlib.Decide.{ℕ_discrete}
 use native.Mathlib.Omega.{arith}
-use lib.ListN.{length, get_or, set, length-set}
-use lib.Seq.{get_or-set_same, get_or-set_other}
+use lib.ListN.{get_or}
+use Rattle.std.specs.Fn.{Called, Mut}
+use Rattle.std.specs.Array.{IsFromFnResult, IsFromFnResultFrom}
 use Rattle.unsound.specs.Dump.{Entries}
 
--- the first k of n entries are as the claim says
-pub record Filled {A : Type 0} (n : ℕ) (Is : ℕ → A → Type 0) (beyond : A) (k : ℕ) (l : List A) : Type 0 where
-  pub long : length l ≡ n
-  pub within : k ≤ n
-  pub each : (i : ℕ) → i < k → Is i (get_or l i beyond)
+-- the calls leave the closure as it was
+module _ {F B : Type 0} (g : Mut F (ℕ × Unit {0}) B) {Is : ℕ → B → Type 0} (f : F) (one : (i : ℕ) (y : B) (q : F) → Called g f (i, tt) y q → Is i y × (q ≡ f)) where
+  each_from : (ys : List B) (d : B) (n i : ℕ) (p : F) → p ≡ f → IsFromFnResultFrom g p ys i n → (k : ℕ) → i ≤ k → k < i + n → Is k (get_or ys k d)
+  each_from ys d zero i p e c k l h = absurd (omega arith)
+  each_from ys d (suc n) i p e (q, y, at, call, rest) k l h =
+      let same = one i y q (rw e at call) in
+      elim (ℕ_discrete k i) [ yes here ↦ rw (here, at.1 d) same.0 | no other ↦ each_from ys d n (i + 1) q same.1 rest k (omega arith) (omega arith) ]
 
--- that k is 0 is an equation, so that a loop which starts later asks for a false one
-pub filled_none : {A : Type 0} {n k : ℕ} {Is : ℕ → A → Type 0} {beyond : A} {l : List A} → k ≡ 0 → length l ≡ n → Filled n Is beyond k l
-filled_none start long = record { long = long; within = omega arith; each = λ i h. absurd (omega arith) }
-
-module _ {A : Type 0} {n : ℕ} {Is : ℕ → A → Type 0} {beyond : A} {k : ℕ} {l : List A} (f : Filled n Is beyond k l) where
-  pub filled_more : {v : A} → k < n → Is k v → Filled n Is beyond (k + 1) (set l k v)
-  filled_more {v} room here = record { long = rw length-set f.long; within = omega arith; each = λ i h. go i h (ℕ_discrete i k) }
-    where
-      go : (i : ℕ) → i < k + 1 → Dec (i ≡ k) → Is i (get_or (set l k v) i beyond)
-      go i h (yes e) = rw (e, get_or-set_same l k v beyond (rw f.long room)) here
-      go i h (no e) = rw (get_or-set_other l k i v beyond e) (f.each i (omega arith))
-
-  pub filled_all : n ≤ k → Entries n Is beyond l
-  filled_all end = record { long = f.long; each = λ i h. f.each i (omega arith) }
+  pub entries_of : {n : ℕ} {d : B} {ys : List B} → IsFromFnResult g f ys n → Entries n Is d ys
+  entries_of {n} {d} {ys} r = record { long = r.long; each = λ k h. each_from ys d n 0 f refl r.each k (omega arith) (omega arith) }

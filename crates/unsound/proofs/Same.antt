@@ -3,13 +3,13 @@ use Prim.Native.Nat.{ℕ}
 use mathlib.Core.Path.{◌≡◌, sym, ap, ◌∙◌}
 use mathlib.Core.List.{List}
 use lib.Seq.{ext_get_or}
+use Rattle.std.specs.Prelude.{Option, Some, None}
+use Rattle.dispatcher.specs.Answers.{Answer}
 use Rattle.dispatcher.specs.declared.Task.{Task}
 use Rattle.dispatcher.specs.declared.Dispatcher.{Dispatcher}
 use Rattle.dispatcher.proofs.Same.{answered_same}
 use Rattle.unsound.specs.Dump.{TaskIn, Entries, Dumps}
 use Rattle.unsound.specs.Judge.{Judges}
-use Rattle.unsound.specs.declared.Verdict.{Verdict}
-use Rattle.unsound.specs.declared.Verdict.TheVariants.{NoDump, Judged}
 
 entries_same : {A : Type 0} {n : ℕ} {Is : ℕ → A → Type 0} {beyond : A} {l m : List A}
     → ((i : ℕ) (x y : A) → Is i x → Is i y → x ≡ y) → Entries n Is beyond l → Entries n Is beyond m → l ≡ m
@@ -31,10 +31,10 @@ dumps_same {b} {d} {e} p q = λ i. record { cores = (p.cores ∙ sym q.cores) i;
     seats : d.seats ≡ e.seats
     seats = entries_same (λ c v w x y. x ∙ sym y) p.seats q.seats
 
-pub judges_same : (b : List ℕ) (v w : Verdict) → Judges b v → Judges b w → v ≡ w
-judges_same b NoDump NoDump p q = cc
-judges_same b NoDump (Judged a) p q = absurd (p q.dump)
-judges_same b (Judged a) NoDump p q = absurd (q p.dump)
-judges_same b (Judged a) (Judged c) p q =
+pub judges_same : (b : List ℕ) (v w : Option Answer) → Judges b v → Judges b w → v ≡ w
+judges_same b None None p q = cc
+judges_same b None (Some a) p q = absurd (p q.dump)
+judges_same b (Some a) None p q = absurd (q p.dump)
+judges_same b (Some a) (Some c) p q =
     let e = dumps_same q.means p.means in
-    ap Judged (answered_same p.answer (rw e at q.answer))
+    ap Some (answered_same p.answer (rw e at q.answer))
