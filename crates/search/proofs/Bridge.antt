@@ -1,22 +1,12 @@
 -- From masks to tasks: what the search says of a table of masks holds of the seating whose sitters' masks it has.
-use Prim.Native.Nat.{ℕ, zero, suc, ◌-◌, ◌≤◌, ◌<◌}
-use mathlib.Core.Path.{◌≡◌, refl, sym, ap, ◌∙◌}
-use mathlib.Core.Logic.{◌⊎◌, inl, inr, ◌≢◌}
-use mathlib.Core.Bool.{Bool, true, false}
-use mathlib.Core.List.{List, [], ◌∷◌, ◌++◌}
+use Rattle.std.proofs.Common.{ℕ, suc, ◌-◌, ◌≤◌, ◌<◌, ◌≡◌, refl, sym, ap, ◌∙◌, ◌⊎◌, inl, inr, ◌≢◌, Bool, true, false, List, [], ◌∷◌, arith, bit_and, eqb, length, get_or, set, length-set}
 use native.Mathlib.Decide.{ℕ_discrete}
-use native.Mathlib.Nat.{not-suc-le-zero, le_of_suc-le-suc}
-use native.Mathlib.Omega.{arith}
-use lib.Bits.{bit_and}
-use lib.Dec.{eqb}
-use lib.ListN.{length, get_or, set, take, length-set}
-use lib.Seq.{take-append_seam}
 use Rattle.laws.specs.Lists.{In, last}
-use Rattle.laws.proofs.Counting.{last_in, pigeonhole}
+use Rattle.laws.proofs.Counting.{last_in}
 use Rattle.laws.proofs.Deciding.{cases, clash}
 use Rattle.laws.proofs.Lists.{get_d_any}
 use Rattle.laws.proofs.Testing.{eqb_eq, eqb_true}
-use Rattle.masks.specs.Masks.{width, has}
+use Rattle.masks.specs.Masks.{has}
 use Rattle.masks.proofs.Bits.{has_zero}
 use Rattle.masks.proofs.Operators.{and_some, and_none}
 use Rattle.seating.specs.Chain.{Links, Chain}
@@ -31,7 +21,7 @@ use Rattle.seating.proofs.Take.{seats, take_chain_of, take_chain_took, chain_bel
 use Rattle.search.specs.Sitters.{mask_on}
 use Rattle.search.specs.Route.{Found, Nowhere}
 use Rattle.search.specs.Leading.{Leading}
-use Rattle.search.specs.Taken.{take_list, Cores}
+use Rattle.search.specs.Taken.{take_list}
 use Rattle.search.specs.declared.Route.{Route}
 
 -- M t is the mask of task t, and the table has the masks of the tasks that sit in s
@@ -88,7 +78,7 @@ module _ {n e : ℕ} {may : ℕ → ℕ → Bool} {s : ℕ → ℕ} {M : ℕ →
   tasks_reaches R = record { c = R.c; p = R.p; chain = chain_out R.chain; ends = R.ends }
 
   -- a search that finds nothing says that no core of its target is reached
-  pub reached_none : {x target : ℕ} {r : Route} {z : ℕ} → Nowhere n masks (M x) target r → has target z ≡ true → Reached n e may s x z → ⊥
+  pub reached_none : {x target z : ℕ} → Nowhere n masks (M x) target → has target z ≡ true → Reached n e may s x z → ⊥
   reached_none {target = target} N t R = N.unreached.none R.c R.p (chain_out R.chain) (ap (has target) R.ends ∙ t)
 
   -- ---- the cores that lead to core z
@@ -126,43 +116,19 @@ take_list_chain e xs x c (d ∷ p) h =
     take_list_chain e (set xs c x) (get_or xs c 0) d p (λ a i. rw length-set (h a (inr i)))
     ∙ ap (λ (t : ℕ). take_chain_of e (set xs c x) t d p) (get_d_any xs c 0 e (h c (inl refl)))
 
-in_at : (l : List ℕ) (i : ℕ) → i < length l → In (get_or l i 0) l
-in_at [] i h = absurd (not-suc-le-zero h)
-in_at (x ∷ l) zero h = inl refl
-in_at (x ∷ l) (suc i) h = inr (in_at l i (le_of_suc-le-suc h))
+-- taking the chain that was found is taking the chosen chain
+found_taken : {n : ℕ} {masks : List ℕ} {start target : ℕ} {r : Route} (F : Found n masks start target r) (e : ℕ) (xs : List ℕ) (x : ℕ) → n ≤ length xs → take_list xs x r ≡ take_chain_of e xs x F.c F.p
+found_taken F e xs x l = rw F.told (take_list_chain e xs x F.c F.p (λ a i. let u = chain_below F.chosen.chain a i in omega arith))
 
-get_d_front : (l m : List ℕ) (i : ℕ) → i < length l → get_or (l ++ m) i 0 ≡ get_or l i 0
-get_d_front [] m i h = absurd (not-suc-le-zero h)
-get_d_front (x ∷ l) m zero h = refl
-get_d_front (x ∷ l) m (suc i) h = get_d_front l m i (le_of_suc-le-suc h)
-
-module _ {n : ℕ} {masks : List ℕ} {start target : ℕ} {r : Route} (F : Found n masks start target r) (few : n ≤ width) where
-  inside : (a : ℕ) → In a (F.c ∷ F.p) → a < n
-  inside = chain_below F.chosen.chain
-
-  short : suc (length F.p) ≤ n
-  short = pigeonhole (F.c ∷ F.p) n F.chosen.chain.distinct inside
-
-  -- the chain that was found can be taken,
-  pub found_cores : Cores r.cores r.length
-  found_cores = rw F.told (record {
-    few = omega (arith, short);
-    below = λ i l. let u = inside (get_or (F.c ∷ F.p) i 0) (in_at (F.c ∷ F.p) i l) in rw (get_d_front (F.c ∷ F.p) _ i l) (omega arith);
-  })
-
-  -- and taking it is taking the chosen chain
-  pub found_taken : (e : ℕ) (xs : List ℕ) (x : ℕ) → n ≤ length xs → take_list xs x (take r.length r.cores) ≡ take_chain_of e xs x F.c F.p
-  found_taken e xs x l = rw F.told (ap (take_list xs x) (take-append_seam (F.c ∷ F.p) _) ∙ take_list_chain e xs x F.c F.p (λ a i. let u = inside a i in omega arith))
-
-pub found_goes : {n e : ℕ} {may : ℕ → ℕ → Bool} (xs : List ℕ) {M : ℕ → ℕ} {masks : List ℕ} → n ≤ width → n ≤ length xs → Masks n e may (seats e xs) M masks → (x : ℕ) {target : ℕ} {r : Route}
+pub found_goes : {n e : ℕ} {may : ℕ → ℕ → Bool} (xs : List ℕ) {M : ℕ → ℕ} {masks : List ℕ} → n ≤ length xs → Masks n e may (seats e xs) M masks → (x : ℕ) {target : ℕ} {r : Route}
     → Found n masks (M x) target r → (T : ℕ → Bool) → ((c : ℕ) → c < n → has target c ≡ T c)
-    → Goes n e may (seats e xs) x T (seats e (take_list xs x (take r.length r.cores))) (r.length - 1)
-found_goes {n} {e} {may} xs few long A x {target} {r} F T aim = record {
+    → Goes n e may (seats e xs) x T (seats e (take_list xs x r)) (length r - 1)
+found_goes {n} {e} {may} xs long A x {target} {r} F T aim = record {
   c = F.c;
   p = F.p;
   chosen = C;
-  takes = rw (found_taken F few e xs x long) (took_takes (take_chain_took xs long C.chain));
-  count = ap (λ (q : Route). q.length - 1) F.told ∙ one_less;
+  takes = rw (found_taken F e xs x long) (took_takes (take_chain_took xs long C.chain));
+  count = ap (λ (q : Route). length q - 1) F.told ∙ one_less;
 }
   where
     C : Chosen n e may (seats e xs) x T F.c F.p

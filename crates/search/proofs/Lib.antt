@@ -1,8 +1,7 @@
-mod Arrays
 mod Gathering
+mod Lowest
 mod Following
 mod Marking
 mod Sweeping
-mod Taking
 pub mod Same
 pub mod Bridge

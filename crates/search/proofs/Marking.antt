@@ -1,15 +1,7 @@
 -- The rounds of marking: after k of them the marks are right for at most k steps, and once a round adds no core they are right for any number.
-use Prim.Native.Nat.{ℕ, zero, suc, ◌+◌, ◌≤◌, ◌<◌}
-use mathlib.Core.Path.{◌≡◌, refl, sym, ap, ◌∙◌}
-use mathlib.Core.Logic.{◌⊎◌, inl, inr, ◌≢◌}
-use mathlib.Core.Bool.{Bool, true, false, cond}
-use mathlib.Core.List.{List, [], ◌∷◌}
+use Rattle.std.proofs.Common.{ℕ, zero, suc, ◌+◌, ◌≤◌, ◌<◌, ◌≡◌, refl, sym, ap, subst, ◌∙◌, ◌⊎◌, inl, inr, Bool, true, false, cond, List, [], ◌∷◌, arith, bit_and, leb, get_or, leb-true, leb-false, le-leb}
 use native.Mathlib.Decide.{dec_lt}
-use native.Mathlib.Omega.{arith}
-use lib.Bits.{bit_and}
-use lib.Dec.{leb}
-use lib.ListN.{get_or}
-use borrow.Author.Tests.{leb-true, leb-false, le-leb, lt-leb}
+use borrow.Author.Tests.{lt-leb}
 use Rattle.laws.specs.Lists.{last}
 use Rattle.laws.proofs.Deciding.{cases, clash}
 use Rattle.masks.specs.Masks.{width, has}
@@ -18,11 +10,11 @@ use Rattle.seating.specs.Chain.{Links}
 use Rattle.seating.specs.Chosen.{Unreached}
 use Rattle.seating.specs.Reached.{Reached}
 use Rattle.seating.proofs.Reach.{reach_start, reach_step}
-use Rattle.seating.proofs.Near.{Missed, missed_next, Exact, walk, walk_good, steps_links, turn, turn_kept, turn_marked, Marked, marked_start, marked_full, marked_all}
+use Rattle.seating.proofs.Near.{Missed, missed_next, Exact, walk, walk_good, steps_links, turn, turn_kept, turn_marked, Marked, marked_full, marked_all}
 use Rattle.search.specs.Sitters.{mask_on, leads}
 use Rattle.search.specs.Leading.{Leading}
 use Rattle.search.specs.Marks.{far, farthest, mark, within}
-use Rattle.search.specs.Rounds.{Gathered, first_mark_of, next_mark_of, Filled}
+use Rattle.search.specs.Rounds.{Gathered, next_mark_of, Filled}
 use Rattle.search.specs.Distances.{Complete, Distances}
 use Rattle.search.proofs.Gathering.{meets, meets_none}
 use Rattle.search.proofs.Following.{graph, unmarked}
@@ -35,17 +27,9 @@ pub record Rounds (n : ℕ) (masks : List ℕ) (start target : ℕ) (marks : Lis
   pub few : n ≤ width
   pub so_far : k ≤ n
 
-pub rounds_start : {n : ℕ} (masks : List ℕ) (start : ℕ) {target : ℕ} {marks : List ℕ} {near : ℕ} → n ≤ width → Filled (first_mark_of target) n n marks → Gathered marks 0 n near
-    → Rounds n masks start target marks near 0
-rounds_start masks start l F G = record { marked = marked_start (omega arith) F.done; gathered = G; missed = λ i c m. absurd (omega arith); few = l; so_far = omega arith }
-
 module _ {n : ℕ} {masks : List ℕ} {start target : ℕ} {marks : List ℕ} {near k : ℕ} (R : Rounds n masks start target marks near k) where
   distances : (bit_and start near ≡ 0 → Complete n masks target marks near) → Distances n masks start target (record { marks = marks; near = near; limit = k })
   distances f = record { levels = R.marked.levels; gathered = R.gathered; missed = R.missed; complete = f }
-
-  -- a core of the start has a mark
-  pub rounds_met : bit_and start near ≢ 0 → Distances n masks start target (record { marks = marks; near = near; limit = k })
-  rounds_met h = distances (λ z. absurd (h z))
 
   -- a core with a mark has one of at most k
   gathered_far : Gathered marks farthest n near
@@ -60,14 +44,14 @@ module _ {n : ℕ} {masks : List ℕ} {start target : ℕ} {marks : List ℕ} {n
   calm_distances calm p = distances (λ z. record { levels = marked_all R.marked calm p farthest (omega arith); gathered = gathered_far })
 
   -- after n rounds
-  pub rounds_over : n ≤ k → Distances n masks start target (record { marks = marks; near = near; limit = k })
-  rounds_over l = go (dec_lt 0 n)
+  pub rounds_over : n ≤ k → Distances n masks start target (record { marks = marks; near = near; limit = n })
+  rounds_over l = let Over : ℕ → Type 0 = λ i. Distances n masks start target (record { marks = marks; near = near; limit = i }) in subst Over (omega (arith, R.so_far)) (go (dec_lt 0 n))
     where
       go : Dec (0 < n) → Distances n masks start target (record { marks = marks; near = near; limit = k })
       go (yes t) = calm_distances (marked_full R.marked l) (omega arith)
       go (no t) = distances (λ z. record { levels = record { start = λ c m. absurd (omega arith); next = λ i c m b. absurd (omega arith) }; gathered = gathered_far })
 
-  module _ (b : k < n) (z : bit_and start near ≡ 0) {next : List ℕ} (F : Filled (λ c. next_mark_of (mark marks c) (get_or masks c 0) near k) n n next) where
+  module _ (b : k < n) (z : bit_and start near ≡ 0) {next : List ℕ} (F : Filled (λ c. next_mark_of (mark marks c) (get_or masks c 0) near k) n next) where
     room : k + 1 < far
     room = let f = R.few in omega arith
 
@@ -94,7 +78,7 @@ module _ {n : ℕ} {masks : List ℕ} {start target : ℕ} {marks : List ℕ} {n
 
 -- a round that adds no core is the last
 pub rounds_stuck : {n : ℕ} {masks : List ℕ} {start target : ℕ} {marks : List ℕ} {near k : ℕ} (R : Rounds n masks start target marks near k) → k < n → bit_and start near ≡ 0 → {next : List ℕ}
-    → Filled (λ c. next_mark_of (mark marks c) (get_or masks c 0) near k) n n next → {near' : ℕ} → Gathered next (k + 1) n near' → near' ≡ near
+    → Filled (λ c. next_mark_of (mark marks c) (get_or masks c 0) near k) n next → {near' : ℕ} → Gathered next (k + 1) n near' → near' ≡ near
     → Distances n masks start target (record { marks = next; near = near; limit = k + 1 })
 rounds_stuck {n} {k = k} R b z {next} F G e = calm_distances (rounds_next R b z F (rw e at G)) calm (omega arith)
   where

@@ -1,28 +1,20 @@
 -- Any two results that the promise of `search`, `reached` or `leading` allows are the same. (The promise of `take_chain` names its result.)
-use Prim.Native.Nat.{ℕ, ◌<◌, ◌^◌}
-use mathlib.Core.Path.{◌≡◌, refl, sym, ap, ◌∙◌}
-use mathlib.Core.Logic.{◌⊎◌, inl, inr}
-use mathlib.Core.Bool.{true, false}
-use mathlib.Core.List.{List}
-use lib.ListN.{length}
+use Rattle.std.proofs.Common.{ℕ, ◌<◌, ◌^◌, ◌≡◌, refl, sym, ap, ◌∙◌, ◌⊎◌, inl, inr, true, false, List, Option, Some, None}
 use Rattle.laws.proofs.Deciding.{cases, clash}
 use Rattle.laws.proofs.Testing.{eqb_eq, eqb_true}
 use Rattle.masks.specs.Masks.{width, has}
 use Rattle.masks.proofs.Operators.{has_power, same_bits}
 use Rattle.seating.proofs.Choice.{chosen_same}
-use Rattle.search.specs.Route.{spelt, Searched}
+use Rattle.search.specs.Route.{Searched}
 use Rattle.search.specs.ReachedCores.{ReachedCores}
 use Rattle.search.specs.Leading.{Leading}
 use Rattle.search.specs.declared.Route.{Route}
 
-pub searched_same : {n : ℕ} {masks : List ℕ} {start target : ℕ} {r q : Route} → Searched n masks start target r → Searched n masks start target q → r ≡ q
-searched_same (inl a) (inl b) = a.told ∙ ap spell (chosen_same a.chosen b.chosen) ∙ sym b.told
-  where
-    spell : List ℕ → Route
-    spell l = record { found = true; cores = spelt l; length = length l }
-searched_same (inl a) (inr b) = absurd (b.unreached.none a.c a.p a.chosen.chain a.chosen.hits)
-searched_same (inr a) (inl b) = absurd (a.unreached.none b.c b.p b.chosen.chain b.chosen.hits)
-searched_same (inr a) (inr b) = a.told ∙ sym b.told
+pub searched_same : (n : ℕ) (masks : List ℕ) (start target : ℕ) (r q : Option Route) → Searched n masks start target r → Searched n masks start target q → r ≡ q
+searched_same n masks start target (Some r) (Some q) a b = ap Some (a.told ∙ chosen_same a.chosen b.chosen ∙ sym b.told)
+searched_same n masks start target (Some r) None a b = absurd (b.unreached.none a.c a.p a.chosen.chain a.chosen.hits)
+searched_same n masks start target None (Some q) a b = absurd (a.unreached.none b.c b.p b.chosen.chain b.chosen.hits)
+searched_same n masks start target None None a b = refl
 
 pub reached_same : {n : ℕ} {masks : List ℕ} {start r q : ℕ} → r < 2 ^ width → q < 2 ^ width → ReachedCores n masks start r → ReachedCores n masks start q → r ≡ q
 reached_same {r = r} {q} l m A B = same_bits width r q l m (λ c. go c (cases (has r c)) (cases (has q c)))

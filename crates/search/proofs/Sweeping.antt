@@ -1,15 +1,6 @@
 -- The sweeps of `reached`: each adds reached cores only, and one that adds none has them all.
-use Prim.Native.Nat.{ℕ, ◌+◌, ◌%◌, ◌^◌, ◌≤◌, ◌<◌}
-use mathlib.Core.Path.{◌≡◌, sym, ap, ◌∙◌}
-use mathlib.Core.Logic.{◌⊎◌, inl, inr, ◌≢◌}
-use mathlib.Core.Bool.{true, false, ◌&&◌}
-use mathlib.Core.List.{List}
+use Rattle.std.proofs.Common.{ℕ, ◌+◌, ◌%◌, ◌^◌, ◌<◌, ◌≡◌, sym, ap, ◌∙◌, ◌⊎◌, inl, inr, ◌≢◌, true, false, ◌&&◌, List, arith, bit_or, ltb, get_or, ltb-true, lt-ltb}
 use native.Mathlib.Decide.{ℕ_discrete}
-use native.Mathlib.Omega.{arith}
-use lib.Bits.{bit_or}
-use lib.Dec.{ltb}
-use lib.ListN.{get_or}
-use borrow.Author.Tests.{ltb-true, lt-ltb}
 use Rattle.laws.specs.Lists.{last}
 use Rattle.laws.proofs.Counting.{last_in}
 use Rattle.laws.proofs.Deciding.{clash}
@@ -27,15 +18,6 @@ use Rattle.search.specs.ReachedCores.{ReachedCores}
 use Rattle.search.specs.Spread.{Pushed, Spread}
 
 -- ---- one sweep
-
-pub spread_start : (n : ℕ) (masks : List ℕ) (seen : ℕ) → Spread n masks seen 0 seen
-spread_start n masks seen = record {
-  in_range = omega arith;
-  grows = omega arith;
-  keeps = λ d h. h;
-  adds = λ d p. absurd (omega (arith, p.passed));
-  only = λ d h. inl h;
-}
 
 wider : {n : ℕ} {masks : List ℕ} {seen i d : ℕ} → Pushed n masks seen i d → Pushed n masks seen (i + 1) d
 wider p = record { from = p.from; passed = omega (arith, p.passed); inside = p.inside; below = p.below; may = p.may }
@@ -82,9 +64,6 @@ module _ {n : ℕ} {masks : List ℕ} {seen i r : ℕ} (S : Spread n masks seen 
           let k = and_both (leads masks i d) (ltb d n) (sym (bits d) ∙ h) in
           inr (record { from = i; passed = omega arith; inside = f; below = ltb-true d n k.1; may = k.0 })
 
-pub spread_end : {n : ℕ} {masks : List ℕ} {seen i r : ℕ} → Spread n masks seen i r → n ≤ i → Spread n masks seen n r
-spread_end {n} {i = i} S l = let q : i ≡ n = let b = S.in_range in omega arith in rw q at S
-
 -- ---- the sweeps
 
 pub record Grown (n : ℕ) (masks : List ℕ) (start seen : ℕ) : Type 0 where
@@ -108,9 +87,6 @@ module _ {n : ℕ} {masks : List ℕ} {start seen next : ℕ} (A : Grown n masks
       from : (d : ℕ) → (has seen d ≡ true) ⊎ Pushed n masks seen n d → Reached n 0 has (mask_on masks) start d
       from d (inl h) = A.sound d h
       from d (inr p) = reach_step (A.sound p.from p.inside) (λ z. clash p.may (ap (λ (m : ℕ). has m d) z ∙ has_zero d)) (p.below, p.may)
-
-  pub grown_more : next ≢ seen → seen < next
-  grown_more k = let g = S.grows in omega arith
 
   -- a sweep that adds nothing is the last
   pub grown_end : next ≡ seen → ReachedCores n masks start next

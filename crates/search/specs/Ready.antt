@@ -1,6 +1,5 @@
 -- A chain can be followed from core c: k steps lead from it to the target, and no fewer. N j d: at most j steps lead there from core d.
-use Rattle.std.specs.Prelude.{ℕ, ◌≤◌, ◌<◌, ◌≡◌, Bool, true, List}
-use Rattle.masks.specs.Masks.{width}
+use Rattle.std.specs.Prelude.{ℕ, ◌<◌, ◌≡◌, Bool, true, List}
 use Rattle.seating.proofs.Near.{Levels, Exact}
 use Rattle.search.specs.Sitters.{leads}
 
@@ -10,5 +9,4 @@ pub record Ready (n : ℕ) (masks : List ℕ) (N : ℕ → ℕ → Bool) (c k : 
   pub below : c < n
   pub near : N k c ≡ true
   pub exact : Exact N k c
-  pub few : n ≤ width
   pub short : k < n
