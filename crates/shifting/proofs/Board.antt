@@ -1,12 +1,6 @@
 -- A sound dispatcher in the words of seatings: its seats are a legal seating, its order is a rank, and the table of masks is that of its sitters.
-use Prim.Native.Nat.{ℕ, ◌-◌, ◌<◌}
-use mathlib.Core.Path.{◌≡◌, refl, sym, ap, ◌∙◌}
-use mathlib.Core.Logic.{◌≢◌}
-use mathlib.Core.Bool.{Bool}
-use mathlib.Core.List.{List}
+use Rattle.std.proofs.Common.{ℕ, ◌-◌, ◌<◌, ◌≡◌, refl, sym, ap, ◌∙◌, ◌≢◌, Bool, arith, length, get_or}
 use native.Mathlib.Decide.{dec_lt}
-use native.Mathlib.Omega.{arith}
-use lib.ListN.{get_or, take}
 use Rattle.laws.proofs.Lists.{get_d_beyond}
 use Rattle.masks.specs.Masks.{has}
 use Rattle.seating.specs.Strong.{Legal}
@@ -23,6 +17,7 @@ use Rattle.order.proofs.Ranking.{rank_before, before_rank, rank_once}
 use Rattle.search.specs.Route.{Found}
 use Rattle.search.specs.Taken.{take_list}
 use Rattle.search.specs.declared.Route.{Route}
+use Rattle.search.specs.declared.Sitters.{Sitters}
 use Rattle.search.proofs.Bridge.{Masks, found_goes}
 use Rattle.shifting.specs.Board.{may_run}
 use Rattle.shifting.specs.Tables.{SittersOf}
@@ -54,7 +49,7 @@ ranked L S = record { lower = λ t u r q. rank_before S L r q; before = λ t u r
 pub no_slot : {d : Dispatcher} → Shaped d → task_at d none ≡ no_task
 no_slot {d} L = get_d_beyond d.tasks none no_task (rw L.tasks (omega arith))
 
-pub sitters_masks : {d : Dispatcher} {masks : List ℕ} → Shaped d → Sound d → SittersOf d masks → Masks d.cores none (may_run d) (seat_at d) (λ t. (task_at d t).mask) masks
+pub sitters_masks : {d : Dispatcher} {s : Sitters} → Shaped d → Sound d → SittersOf d s → Masks d.cores none (may_run d) (seat_at d) (λ t. (task_at d t).mask) s.masks
 sitters_masks {d} L S T = record {
   allows = λ t c l. refl;
   sitter = λ c l q. T.each c l;
@@ -62,8 +57,8 @@ sitters_masks {d} L S T = record {
 }
 
 -- the chain that a search found is taken
-pub found_shift : {d : Dispatcher} {masks : List ℕ} {x target : ℕ} {r : Route} → Shaped d → Sound d → SittersOf d masks → Found d.cores masks (task_at d x).mask target r
+pub found_shift : {d : Dispatcher} {s : Sitters} {x target : ℕ} {r : Route} → Shaped d → Sound d → SittersOf d s → Found d.cores s.masks (task_at d x).mask target r
     → (T : ℕ → Bool) → ((c : ℕ) → c < d.cores → has target c ≡ T c)
-    → Goes d.cores none (may_run d) (seat_at d) x T (λ c. get_or (take_list d.seats x (take r.length r.cores)) c none) (r.length - 1)
+    → Goes d.cores none (may_run d) (seat_at d) x T (λ c. get_or (take_list d.seats x r) c none) (length r - 1)
 unfolding seats
-found_shift {d} {x = x} L S K F T aim = found_goes d.seats S.count.1 (rw L.seats S.count.1) (sitters_masks L S K) x F T aim
+found_shift {d} {x = x} L S K F T aim = found_goes d.seats (rw L.seats S.count.1) (sitters_masks L S K) x F T aim

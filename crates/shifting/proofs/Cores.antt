@@ -1,11 +1,5 @@
 -- The table of the cores on which slots sit: the first places of the seats below the count.
-use Prim.Native.Nat.{ℕ, ◌<◌}
-use mathlib.Core.Path.{◌≡◌, refl, sym, ◌∙◌}
-use mathlib.Core.Logic.{◌≢◌, inl, inr}
-use mathlib.Core.List.{List}
-use native.Mathlib.Omega.{arith}
-use lib.ListN.{get_or, take, length-take}
-use lib.Seq.{get_or-take}
+use Rattle.std.proofs.Common.{ℕ, ◌<◌, ◌≡◌, refl, sym, ◌∙◌, ◌≢◌, inl, inr, List, arith, get_or, take, length-take, get_or-take}
 use Rattle.dispatcher.specs.Limits.{slot_limit, none}
 use Rattle.dispatcher.specs.Slots.{seat_at, Shaped}
 use Rattle.dispatcher.specs.Sound.{Sound}

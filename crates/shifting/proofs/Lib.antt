@@ -1,4 +1,5 @@
 mod Tabling
+mod Standing
 pub mod Along
 mod Cores
 mod Seeking

@@ -1,8 +1,5 @@
 -- Any two shifts that the promise of `arrive` or of `fill` allows are the same.
-use Prim.Native.Nat.{ℕ}
-use mathlib.Core.Path.{◌≡◌, sym, ◌∙◌}
-use lib.ListN.{length}
-use lib.Seq.{ext_get_or}
+use Rattle.std.proofs.Common.{ℕ, ◌≡◌, sym, ◌∙◌, length, ext_get_or}
 use Rattle.seating.proofs.Once.{arrives_same, fills_same}
 use Rattle.dispatcher.specs.Limits.{core_limit, none}
 use Rattle.dispatcher.specs.declared.Dispatcher.{Dispatcher}

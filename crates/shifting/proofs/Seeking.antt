@@ -1,13 +1,5 @@
 -- Whether a slot waits and its mask meets some cores, by the table of the cores on which slots sit.
-use Prim.Native.Nat.{ℕ, ◌<◌}
-use mathlib.Core.Path.{◌≡◌, ap}
-use mathlib.Core.Logic.{◌≢◌, inl, inr}
-use mathlib.Core.Bool.{Bool, true, ◌&&◌}
-use mathlib.Core.List.{List}
-use native.Mathlib.Omega.{arith}
-use lib.Bits.{bit_and}
-use lib.Dec.{eqb}
-use lib.ListN.{get_or, take}
+use Rattle.std.proofs.Common.{ℕ, ◌<◌, ◌≡◌, ap, ◌≢◌, inl, inr, Bool, true, ◌&&◌, List, arith, bit_and, eqb, get_or, take}
 use Rattle.laws.specs.Decides.{Decides}
 use Rattle.laws.proofs.Deciding.{decides_same, decides_true, decides_by, decides_not, decides_and, decides_eq}
 use Rattle.laws.proofs.Testing.{and_both}

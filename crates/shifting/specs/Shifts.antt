@@ -1,8 +1,8 @@
 -- What a shift is: the seats after it, and what a call reports of it.
-use Rattle.std.specs.Prelude.{ℕ, ◌-◌, ◌<◌, ◌≡◌, List, get_or, take}
+use Rattle.std.specs.Prelude.{ℕ, ◌-◌, ◌≡◌, List, length, get_or}
 use Rattle.dispatcher.specs.Limits.{none}
 use Rattle.dispatcher.specs.declared.Dispatcher.{Dispatcher}
-use Rattle.search.specs.Taken.{take_list, Cores}
+use Rattle.search.specs.Taken.{take_list}
 use Rattle.search.specs.declared.Route.{Route}
 use Rattle.shifting.specs.Arriving.{ArrivesIn}
 use Rattle.shifting.specs.Filling.{FillsIn}
@@ -22,11 +22,6 @@ Refilled d z r = FillsIn d z (seat_on r) r.moves r.started × (r.stopped ≡ non
 abbrev pub still_at : List ℕ → Shift
 still_at seats = record { seats = seats; moves = 0; started = none; stopped = none }
 
--- a chain that a search found can be taken
-pub record Takable (r : Route) : Type 0 where
-  pub cores : Cores r.cores r.length
-  pub some : 0 < r.length
-
--- slot x takes it, and another stops
+-- slot x takes a chain, and another stops
 abbrev pub taken_by : List ℕ → Route → ℕ → ℕ → Shift
-taken_by seats r x stopped = record { seats = take_list seats x (take r.length r.cores); moves = r.length - 1; started = x; stopped = stopped }
+taken_by seats r x stopped = record { seats = take_list seats x r; moves = length r - 1; started = x; stopped = stopped }

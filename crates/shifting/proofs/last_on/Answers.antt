@@ -1,140 +1,89 @@
 -- `last_on` meets its promise: of the slots at the passed places of the wake order that sit on a core of the mask, the core of the last one is picked.
-use Prim.Native.Nat.{ℕ, ◌≤◌, ◌<◌}
-use mathlib.Core.Path.{◌≡◌, sym, ap, ◌∙◌}
-use mathlib.Core.Logic.{◌≢◌, ◌⊎◌, inl, inr}
-use mathlib.Core.Bool.{true}
-use mathlib.Core.List.{List}
-use native.Mathlib.Omega.{arith}
-use lib.Dec.{leb}
-use lib.ListN.{get_or, take, length-take}
-use borrow.Author.Rules.{rules}
-use borrow.Author.Tests.{le-leb}
+use Rattle.std.proofs.Common.{◌≡◌, ℕ, ◌≤◌, ◌<◌, ◌≢◌, ◌⊎◌, inl, inr, true, List, Option, Some, leb, get_or, take, sym, ap, ◌∙◌, arith, le-leb}
 use Rattle.laws.proofs.Picking.{by_key}
 use Rattle.masks.specs.Masks.{has}
 use Rattle.dispatcher.specs.Limits.{slot_limit, none}
-use Rattle.dispatcher.specs.Slots.{task_at, order_at, Ready, Shaped}
+use Rattle.dispatcher.specs.Slots.{order_at, seat_at}
 use Rattle.dispatcher.specs.declared.Dispatcher.{Dispatcher}
 use Rattle.dispatcher.proofs.Reading.{order_read}
 use Rattle.order.specs.ComesBefore.{priority_of}
-use Rattle.order.proofs.Waking.{ready_priority}
-use Rattle.shifting.specs.Picking.{rank_at, LastOn}
-use Rattle.shifting.proofs.Board.{core_below}
-use Rattle.shifting.proofs.Along.{along_start, along_skip, along_new, along_keep, along_all, stands_ready, stays_ahead, falls_behind, ready_passed}
-use Rattle.shifting.proofs.Cores.{core_seat, seat_core}
 use Rattle.order.specs.Places.{FirstPlaces}
-use Rattle.shifting.specs.Picking.{Held}
+use Rattle.order.proofs.Waking.{ready_priority}
+use Rattle.shifting.specs.Picking.{rank_at, LastOn, Held}
+use Rattle.shifting.proofs.Board.{core_below}
+use Rattle.shifting.proofs.Along.{along_start, along_skip, along_new, along_keep, along_all, stays_ahead, falls_behind, ready_passed, read_is, read_held, read_ready, read_weight}
+use Rattle.shifting.proofs.Cores.{core_seat, seat_core}
 use Rattle.shifting.proofs.last_on.Invariants.{core_at, rank_on, LastTo}
 use Rattle.shifting.proofs.last_on.Goals as goal
-use Rattle.shifting.proofs.last_on.Goals.{then-t-lowest+then-has, then-t-lowest+else-has, else-t-lowest}
+use Rattle.shifting.proofs.last_on.Goals.{then-priority-lowest+then-has, else-priority-lowest, else-priority-lowest-via-then-priority-lowest+else-has, else-priority-lowest-via-else-priority-lowest}
 
-module _ {d : Dispatcher} {seen : ℕ} {cores : List ℕ} (L : Shaped d) (H : Held d seen) (F : FirstPlaces (take d.cores d.seats) cores) where
-  -- what sits on the core of the slot at a place is that slot
-  rank_is : {i : ℕ} → i < slot_limit → order_at d i ≢ none → has seen (core_at d cores i) ≡ true → rank_on d cores i ≡ rank_at d (order_at d i)
-  rank_is {i} l h t = ap (rank_at d) (core_seat L H.sound F (H.sound.order i l h).slot (H.below (core_at d cores i) t))
-
+module _ {d : Dispatcher} {seen : ℕ} {cores : List ℕ} (H : Held d seen) (F : FirstPlaces (take d.cores d.seats) cores) where
   -- where the order ends
-  picked : {k last lowest : ℕ} → k ≤ slot_limit → (slot_limit ≤ k) ⊎ (order_at d k ≡ none) → LastTo d cores seen k last lowest → LastOn d seen last
-  picked {k} l end A = along_all d.cores (omega arith) (λ i b. H.below (core_at d cores i)) passed A
+  picked : {k lowest : ℕ} {last : Option ℕ} → k ≤ slot_limit → (slot_limit ≤ k) ⊎ (order_at d k ≡ none) → LastTo d cores seen k last lowest → LastOn d seen last
+  picked {k} {last = last} l end A = along_all (λ a b. leb (rank_at d (seat_at d a)) (rank_at d (seat_at d b))) (has seen) last d.cores (omega arith) (λ i b. H.below (core_at d cores i)) passed A
     where
       passed : (c : ℕ) → c < d.cores → has seen c ≡ true → (i : ℕ) × (i < k) × (core_at d cores i ≡ c)
       passed c b t =
-          let S = H.sound in
+          let S = H.lent.sound in
           let held = H.held c t in
-          let (i, m, e) = ready_passed L S end (S.seats c (core_below S b) held).ready in
-          (i, m, ap (λ (w : ℕ). get_or cores w 0) e ∙ seat_core L S F b held)
+          let (i, m, e) = ready_passed H.lent.shaped S end (S.seats c (core_below S b) held).ready in
+          (i, m, ap (λ (w : ℕ). get_or cores w 0) e ∙ seat_core H.lent.shaped S F b held)
 
-  -- a slot stands at a place
-  module _ {k : ℕ} (low : k < slot_limit) (busy : get_or d.order k 0 ≢ none) where
-    read : order_at d k ≡ get_or d.order k 0
-    read = order_read d k L.order low
+  -- what sits on the core of the slot at a place is that slot
+  rank_is : {i : ℕ} → i < slot_limit → order_at d i ≢ none → has seen (core_at d cores i) ≡ true → rank_on d cores i ≡ rank_at d (order_at d i)
+  rank_is {i} l h t = ap (rank_at d) (core_seat H.lent.shaped H.lent.sound F (H.lent.sound.order i l h).slot (H.below (core_at d cores i) t))
 
-    held : order_at d k ≢ none
-    held q = busy (sym read ∙ q)
+  -- what sits on two cores of the mask, that of an earlier place and that of this one
+  module _ {p k : ℕ} (b : p < k) (low : k < slot_limit) (held : order_at d k ≢ none) (t : has seen (core_at d cores p) ≡ true) (u : has seen (core_at d cores k) ≡ true) where
+    rank_before : rank_on d cores p ≡ rank_at d (order_at d p)
+    rank_before = rank_is (omega arith) ((H.lent.sound.order k low held).no_gap p b) t
 
-    ready : Ready d (get_or d.order k 0)
-    ready = rw read at (stands_ready L H.sound low held)
+    rank_here : rank_on d cores k ≡ rank_at d (order_at d k)
+    rank_here = rank_is low held u
 
-    weight : priority_of d (order_at d k) ≡ (task_at d (get_or d.order k 0)).priority
-    weight = ap (priority_of d) read
+    later : priority_of d (order_at d k) ≤ priority_of d (order_at d p) → leb (rank_on d cores p) (rank_on d cores k) ≡ true
+    later m = le-leb (rank_on d cores p) (rank_on d cores k) (omega (arith, rank_before, rank_here, stays_ahead H.lent.shaped H.lent.sound b low held m))
 
-    core : core_at d cores k ≡ get_or cores (get_or d.order k 0) 0
-    core = ap (λ (w : ℕ). get_or cores w 0) read
+    earlier : priority_of d (order_at d p) < priority_of d (order_at d k) → leb (rank_on d cores k) (rank_on d cores p) ≡ true
+    earlier m = le-leb (rank_on d cores k) (rank_on d cores p) (omega (arith, rank_before, rank_here, falls_behind H.lent.shaped H.lent.sound b low held m))
 
-    -- what sits on two cores of the mask, that of an earlier place and this one
-    module _ {p : ℕ} (b : p < k) (t : has seen (core_at d cores p) ≡ true) (u : has seen (core_at d cores k) ≡ true) where
-      rank_before : rank_on d cores p ≡ rank_at d (order_at d p)
-      rank_before = rank_is (omega arith) ((H.sound.order k low held).no_gap p b) t
-
-      rank_here : rank_on d cores k ≡ rank_at d (order_at d k)
-      rank_here = rank_is low held u
-
-      later : priority_of d (order_at d k) ≤ priority_of d (order_at d p) → leb (rank_on d cores p) (rank_on d cores k) ≡ true
-      later m = le-leb (rank_on d cores p) (rank_on d cores k) (omega (arith, rank_before, rank_here, stays_ahead L H.sound b low held m))
-
-      earlier : priority_of d (order_at d p) < priority_of d (order_at d k) → leb (rank_on d cores k) (rank_on d cores p) ≡ true
-      earlier m = le-leb (rank_on d cores k) (rank_on d cores p) (omega (arith, rank_before, rank_here, falls_behind L H.sound b low held m))
-
-pub slice_bounds-seats-end : goal.slice_bounds-seats-end
-slice_bounds-seats-end c =
-    let L : Shaped c.args.d = record { tasks = search rules; order = search rules; seats = search rules } in
-    omega (arith, L.seats, c.requires.sound.count.1)
-
-pub slice_bounds-first_places-end : goal.slice_bounds-first_places-end
-slice_bounds-first_places-end c =
-    let L : Shaped c.args.d = record { tasks = search rules; order = search rules; seats = search rules } in
-    omega (arith, L.seats, c.requires.sound.count.1, length-take c.args.d.cores c.args.d.seats)
-
-pub loop-k-init : goal.loop-k-init
-loop-k-init c = (omega arith, along_start)
+pub loop-slot-init : goal.loop-slot-init
+loop-slot-init c = along_start
 
 pub returns-then-slot-eq-NONE : goal.returns-then-slot-eq-NONE
 returns-then-slot-eq-NONE c =
-    let L : Shaped c.args.d = record { tasks = search rules; order = search rules; seats = search rules } in
-    let here = order_read c.args.d c.loop-k.k L.order c.loop-k-test.true in
-    picked L c.requires c.first_places-cores.ensures c.loop-k.invariant.0 (inr (here ∙ c.if-slot-eq-NONE.true)) c.loop-k.invariant.1
-
-pub offset_bounds-d-slot : goal.offset_bounds-d-slot
-offset_bounds-d-slot c =
-    let L : Shaped c.args.d = record { tasks = search rules; order = search rules; seats = search rules } in
-    omega (arith, (ready L c.requires c.first_places-cores.ensures c.loop-k-test.true c.if-slot-eq-NONE.false).slot)
+    picked c.requires (rw c.from.ensures at c.first_places-cores.ensures) (omega arith)
+    (inr (order_read c.args.d.now c.loop-slot.slot-index c.requires.lent.shaped.order c.loop-slot-test.true ∙ c.if-slot-eq-NONE.true)) c.loop-slot.invariant
 
 pub bounds-d-slot : goal.bounds-d-slot
-bounds-d-slot c =
-    let L : Shaped c.args.d = record { tasks = search rules; order = search rules; seats = search rules } in
-    (ready L c.requires c.first_places-cores.ensures c.loop-k-test.true c.if-slot-eq-NONE.false).slot
-
-pub offset_bounds-cores-slot : goal.offset_bounds-cores-slot
-offset_bounds-cores-slot c =
-    let L : Shaped c.args.d = record { tasks = search rules; order = search rules; seats = search rules } in
-    omega (arith, (ready L c.requires c.first_places-cores.ensures c.loop-k-test.true c.if-slot-eq-NONE.false).slot)
+bounds-d-slot c = (read_ready c.requires.lent.shaped c.requires.lent.sound c.loop-slot-test.true c.from-slot.ensures c.if-slot-eq-NONE.false).slot
 
 pub bounds-cores-slot : goal.bounds-cores-slot
-bounds-cores-slot c =
-    let L : Shaped c.args.d = record { tasks = search rules; order = search rules; seats = search rules } in
-    (ready L c.requires c.first_places-cores.ensures c.loop-k-test.true c.if-slot-eq-NONE.false).slot
+bounds-cores-slot c = (read_ready c.requires.lent.shaped c.requires.lent.sound c.loop-slot-test.true c.from-slot.ensures c.if-slot-eq-NONE.false).slot
 
-pub loop-k-preserved : goal.loop-k-preserved
-loop-k-preserved c =
-    let l = c.loop-k in
-    let d = c.args.d in
-    let L : Shaped c.args.d = record { tasks = search rules; order = search rules; seats = search rules } in
-    let weight = weight L c.requires c.first_places-cores.ensures c.loop-k-test.true c.if-slot-eq-NONE.false in
-    let core = core L c.requires c.first_places-cores.ensures c.loop-k-test.true c.if-slot-eq-NONE.false in
-    let test = ap (has c.args.seen) core in (
-      omega arith,
-      elim c.if-t-lowest.branch [
-        | then-t-lowest+then-has w ↦
-            let u : has c.args.seen (core_at d c.first_places-cores.result l.k) ≡ true = test ∙ sym w.has.ensures ∙ w.if-has.true in
-            let told : c.if-t-lowest.lowest ≡ priority_of d (order_at d l.k) = omega (arith, w.lowest-is, weight) in
-            rw (w.last-is ∙ sym core, told)
-            (along_new l.invariant.1 (omega arith) (by_key (rank_on d c.first_places-cores.result)) u (λ p b t q. later L c.requires c.first_places-cores.ensures c.loop-k-test.true c.if-slot-eq-NONE.false b t u (omega (arith, q, weight, w.if-t-lowest.true))))
-        | then-t-lowest+else-has w ↦ rw (w.last-is, w.lowest-is) (along_skip l.invariant.1 (test ∙ sym w.has.ensures ∙ w.if-has.false))
-        | else-t-lowest w ↦ rw (w.last-is, w.lowest-is)
-            (along_keep l.invariant.1 (λ z. omega (arith, z, w.if-t-lowest.false, (ready_priority c.requires.sound (ready L c.requires c.first_places-cores.ensures c.loop-k-test.true c.if-slot-eq-NONE.false)).1)) (λ u p b t q. earlier L c.requires c.first_places-cores.ensures c.loop-k-test.true c.if-slot-eq-NONE.false b t u (omega (arith, q, weight, w.if-t-lowest.false))))
-      ],
-    )
+pub loop-slot-preserved : goal.loop-slot-preserved
+loop-slot-preserved c =
+    let L = c.requires.lent.shaped in
+    let S = c.requires.lent.sound in
+    let F = rw c.from.ensures at c.first_places-cores.ensures in
+    let low = c.loop-slot-test.true in
+    let busy = c.if-slot-eq-NONE.false in
+    let held = read_held L S low c.from-slot.ensures busy in
+    let weight = read_weight L S low c.from-slot.ensures busy in
+    let core : c.from-core.result ≡ core_at c.args.d.now c.first_places-cores.result c.loop-slot.slot-index =
+    c.from-core.ensures ∙ ap (λ (x : ℕ). get_or c.first_places-cores.result x 0) (sym (read_is L S low c.from-slot.ensures busy)) in
+    elim c.if-priority-lowest.branch [
+      | then-priority-lowest+then-has w ↦
+          let here : has c.args.seen (core_at c.args.d.now c.first_places-cores.result c.loop-slot.slot-index) ≡ true = cc in
+          rw (w.last-is ∙ ap Some core, w.lowest-is ∙ sym weight)
+          (along_new c.loop-slot.invariant (omega arith) (by_key (rank_on c.args.d.now c.first_places-cores.result)) here (λ p b t q. later c.requires F b low held t here (omega (arith, q, weight, w.if-priority-lowest.true))))
+      | else-priority-lowest w ↦ rw (w.last-is, w.lowest-is) (elim w.else-priority-lowest.branch [
+        | else-priority-lowest-via-then-priority-lowest+else-has v ↦ along_skip c.loop-slot.invariant (cc)
+        | else-priority-lowest-via-else-priority-lowest v ↦
+            along_keep c.loop-slot.invariant (λ z. omega (arith, z, v.if-priority-lowest.false, (ready_priority S (read_ready L S low c.from-slot.ensures busy)).1))
+            (λ here p b t q. earlier c.requires F b low held t here (omega (arith, q, weight, v.if-priority-lowest.false)))
+      ])
+    ]
 
 pub returns : goal.returns
-returns c =
-    let L : Shaped c.args.d = record { tasks = search rules; order = search rules; seats = search rules } in
-    picked L c.requires c.first_places-cores.ensures c.loop-k.invariant.0 (inl c.loop-k-test.false) c.loop-k.invariant.1
+returns c = picked c.requires (rw c.from.ensures at c.first_places-cores.ensures) c.loop-slot.auto.slot-index-end (inl c.loop-slot-test.false) c.loop-slot.invariant
