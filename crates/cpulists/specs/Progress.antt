@@ -95,7 +95,7 @@ FindsNumber n t at = OrFault n t (NumberBelow n t at)
 
 -- the item at a place, or the text's first fault
 abbrev pub ReadsPiece : ℕ → List ℕ → ℕ → Result Piece Fault → Type 0
-ReadsPiece n t at = OrFault n t (λ p. ItemAt n t at p.first p.last p.end)
+ReadsPiece n t at = OrFault n t (λ p. ItemAt n t at p.run.first p.run.last p.end)
 
 -- an item and what follows it: the end, or a comma and an item to come
 pub record WalksOn (n : ℕ) (t : List ℕ) (at : ℕ) (w : Walk) : Type 0 where

@@ -20,11 +20,55 @@ struct Number {
     value: u8,
 }
 
-// A number or a range, from its first core to its last, and where it ends.
+// Cores without a gap, from the first to the last.
 #[derive(Clone, Copy)]
-struct Piece {
+struct Run {
     first: u8,
     last: u8,
+}
+
+impl Run {
+    // The lowest run of a set: its lowest core, and those behind it up to the first that it has not.
+    fn lowest(set: u64) -> Run
+        requires { 0 < set }
+        ensures { LowestRun set result.first result.last }
+    {
+        let first = set.trailing_zeros() as u8;
+        let cores = (set >> first).trailing_ones() as u8;
+        Run {
+            first,
+            last: first + cores - 1,
+        }
+    }
+
+    // The set that has these cores, and no other.
+    fn to_set(self) -> u64
+        requires { (self.first ≤ self.last) × (self.last < set_bits) }
+        ensures { Spans self.first self.last result }
+    {
+        (u64::MAX >> (63 - (self.last - self.first))) << self.first
+    }
+
+    // Puts the run behind a text, after a comma where it is not the first.
+    fn put(self, text: &mut ArrayVec<u8, ROOM>)
+        requires { length text.old.items + length (run_text (length text.old.items) (record { first = self.first; last = self.last })) ≤ list_room }
+        ensures { text.new.items ≡ text.old.items ++ run_text (length text.old.items) (record { first = self.first; last = self.last }) }
+    {
+        if !text.is_empty() {
+            text.push(b',');
+        }
+        decimals::put(text, u64::from(self.first));
+        if self.first != self.last {
+            text.push(b'-');
+            decimals::put(text, u64::from(self.last));
+        }
+    }
+}
+
+// A number or a range, and where it ends.
+#[derive(Clone, Copy)]
+struct Piece {
+    run: Run,
     end: usize,
 }
 
@@ -33,13 +77,6 @@ struct Piece {
 struct Walk {
     place: usize,
     set: u64,
-}
-
-// Cores without a gap, from the first to the last.
-#[derive(Clone, Copy)]
-struct Run {
-    first: u8,
-    last: u8,
 }
 
 // A text, and how many cores there may be.
@@ -103,9 +140,12 @@ impl Reader<'_> {
     {
         let first = self.number(at)?;
         let Some(b'-') = self.text.get(first.end) else {
-            return Ok(Piece {
+            let run = Run {
                 first: first.value,
                 last: first.value,
+            };
+            return Ok(Piece {
+                run,
                 end: first.end,
             });
         };
@@ -117,11 +157,11 @@ impl Reader<'_> {
                 offset: second,
             });
         }
-        Ok(Piece {
+        let run = Run {
             first: first.value,
             last: last.value,
-            end: last.end,
-        })
+        };
+        Ok(Piece { run, end: last.end })
     }
 
     // An item, and the comma or the end that has to follow it. After a comma the text can't end.
@@ -130,7 +170,7 @@ impl Reader<'_> {
         ensures { Walks self.now.cores self.now.text.now walk.place result }
     {
         let item = self.item(walk.place)?;
-        let set = walk.set | span(item.first, item.last);
+        let set = walk.set | item.run.to_set();
         match &self.text[item.end..] {
             [] => Ok(Walk {
                 place: item.end,
@@ -152,14 +192,6 @@ impl Reader<'_> {
     }
 }
 
-// The cores from first to last.
-fn span(first: u8, last: u8) -> u64
-    requires { (first ≤ last) × (last < set_bits) }
-    ensures { Spans first last result }
-{
-    (u64::MAX >> (63 - (last - first))) << first
-}
-
 // The set that a List text means.
 pub fn read(text: &[u8], limit: u8) -> Result<u64, Fault>
     ensures { ReadsList (cores_of limit) text.now result }
@@ -176,34 +208,6 @@ pub fn read(text: &[u8], limit: u8) -> Result<u64, Fault>
     Ok(walk.set)
 }
 
-// The lowest run of a set: its lowest core, and those behind it up to the first that it has not.
-fn lowest_run(set: u64) -> Run
-    requires { 0 < set }
-    ensures { LowestRun set result.first result.last }
-{
-    let first = set.trailing_zeros() as u8;
-    let cores = (set >> first).trailing_ones() as u8;
-    Run {
-        first,
-        last: first + cores - 1,
-    }
-}
-
-// A run of cores, after a comma where it is not the first.
-fn put_run(text: &mut ArrayVec<u8, ROOM>, run: Run)
-    requires { length text.old.items + length (run_text (length text.old.items) (record { first = run.first; last = run.last })) ≤ list_room }
-    ensures { text.new.items ≡ text.old.items ++ run_text (length text.old.items) (record { first = run.first; last = run.last }) }
-{
-    if !text.is_empty() {
-        text.push(b',');
-    }
-    decimals::put(text, u64::from(run.first));
-    if run.first != run.last {
-        text.push(b'-');
-        decimals::put(text, u64::from(run.last));
-    }
-}
-
 // The one List text of a set.
 fn list_of(set: u64) -> ArrayVec<u8, ROOM>
     ensures { ListOf set result.items }
@@ -212,9 +216,9 @@ fn list_of(set: u64) -> ArrayVec<u8, ROOM>
     let mut left = set;
     // A turn takes the lowest run out, so that there are as many turns as runs, where a `for` over the cores has 64.
     while left != 0 {
-        let run = lowest_run(left);
-        put_run(&mut text, run);
-        left &= !span(run.first, run.last);
+        let run = Run::lowest(left);
+        run.put(&mut text);
+        left &= !run.to_set();
     }
     text
 }

@@ -1,7 +1,7 @@
--- `lowest_run` meets its contract, by what trailing zeros and ones are.
+-- `lowest` meets its contract, by what trailing zeros and ones are.
 use native.Mathlib.Omega.{arith}
 use Rattle.cpulists.proofs.Lowest.{lowest}
-use Rattle.cpulists.proofs.lowest_run.Goals as goal
+use Rattle.cpulists.proofs.Run.lowest.Goals as goal
 
 pub overflow_sub-result : goal.overflow_sub-result
 overflow_sub-result c = omega (arith, c.trailing_ones-cores.ensures, (lowest c.ranges.set.fits c.requires).0)
