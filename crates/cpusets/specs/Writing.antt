@@ -1,5 +1,5 @@
 -- Request 2: what a writer answers, and which bytes the lent buffer has afterwards. 19 comes before 20; a refused write has no length and changes no byte.
-use Rattle.std.specs.Prelude.{ℕ, ◌≤◌, ◌<◌, ◌≡◌, Ok, IsErrAnd, List, ◌++◌, length, take, drop}
+use Rattle.std.specs.Prelude.{ℕ, ◌≤◌, ◌<◌, ◌≡◌, Ok, IsErrAnd, List, ◌++◌, length, drop}
 use Rattle.masks.specs.Masks.{NamesMissing}
 use Rattle.cpusets.specs.Answers.{number_of, Written}
 
@@ -24,8 +24,3 @@ pub record WritesText (TextOf : List ℕ → Type 0) (before after : List ℕ) (
 pub record Writes (TextOf : List ℕ → Type 0) (n s : ℕ) (before after : List ℕ) (r : Written) : Type 0 where
   pub above : NamesMissing n s → Refuses 19 before after r
   pub below : (NamesMissing n s → ⊥) → WritesText TextOf before after r
-
--- the text that a writer has made at the start of its own bytes
-pub record Made (TextOf : List ℕ → Type 0) (bytes : List ℕ) (size : ℕ) : Type 0 where
-  pub is : TextOf (take size bytes)
-  pub within : size ≤ length bytes
