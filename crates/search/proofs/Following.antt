@@ -8,7 +8,7 @@ use Rattle.seating.specs.Chosen.{Unreached}
 use Rattle.seating.proofs.Near.{lowest, Levels, lowest_in, missed_exact, walk, next_facts, Graph, levels_chosen, levels_none, exact_below}
 use Rattle.search.specs.Sitters.{mask_on, leads}
 use Rattle.search.specs.Route.{route_of, Found, Nowhere}
-use Rattle.search.specs.Taken.{Cores}
+use Rattle.search.specs.Taken.{ChainCores}
 use Rattle.search.specs.Marks.{farthest, mark, within}
 use Rattle.search.specs.Distances.{Complete, Distances}
 use Rattle.search.specs.Ready.{Ready}
@@ -81,7 +81,7 @@ going_end {cores = cores} {k = k} W l = sym (append-nil cores) ∙ (rw none at W
     none : k ≡ 0
     none = omega arith
 
-pub going_cores : {n : ℕ} {masks : List ℕ} {N : ℕ → ℕ → Bool} {first : ℕ} {rest cores : List ℕ} {mask k : ℕ} → n ≤ width → Going n masks N (first ∷ rest) cores mask k → k ≤ 0 → Cores cores
+pub going_cores : {n : ℕ} {masks : List ℕ} {N : ℕ → ℕ → Bool} {first : ℕ} {rest cores : List ℕ} {mask k : ℕ} → n ≤ width → Going n masks N (first ∷ rest) cores mask k → k ≤ 0 → ChainCores cores
 going_cores {n} {cores = cores} few W l = record {
   some = omega (arith, ap (λ (l : List ℕ). length l) (going_end W l));
   below = All-weaker (λ c. c < n) (λ c. c < width) (λ c m. omega arith) cores W.below;

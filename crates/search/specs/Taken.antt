@@ -7,7 +7,11 @@ abbrev pub take_list : List ℕ → ℕ → List ℕ → List ℕ
 take_list seats x [] = seats
 take_list seats x (c ∷ p) = take_list (set seats c x) (get_or seats c 0) p
 
--- a chain's cores: at least one, and each of them one that a set can name
-pub record Cores (cores : List ℕ) : Type 0 where
+-- each of the cores is one that a set can name
+abbrev pub Cores : List ℕ → Type 0
+Cores cores = All (λ c. c < width) cores
+
+-- a chain has at least one core
+pub record ChainCores (cores : List ℕ) : Type 0 where
   pub some : 0 < length cores
-  pub below : All (λ c. c < width) cores
+  pub below : Cores cores

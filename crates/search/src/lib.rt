@@ -8,7 +8,7 @@ ghost use Rattle.search.specs.Sitters.{leads};
 ghost use Rattle.search.specs.Route.{route_of, Searched};
 ghost use Rattle.search.specs.ReachedCores.{ReachedCores};
 ghost use Rattle.search.specs.Leading.{Leading};
-ghost use Rattle.search.specs.Taken.{take_list};
+ghost use Rattle.search.specs.Taken.{take_list, Cores, ChainCores};
 ghost use Rattle.search.specs.Marks.{far, mark, within};
 ghost use Rattle.search.specs.Rounds.{Gathered, LowestWithin, first_mark_of, next_mark_of, Filled};
 ghost use Rattle.search.specs.Distances.{Distances};
@@ -30,13 +30,13 @@ pub struct Route {
 
 impl Model for Route {
     ghost use Rattle.std.specs.Prelude.{ℕ, List};
-    ghost use Rattle.search.specs.Taken.{Cores};
+    ghost use Rattle.search.specs.Taken.{ChainCores};
 
     ghost Value = { List ℕ };
 
     ghost view = { λ r. r.cores.items };
 
-    ghost invariant = { λ r. Cores r.cores.items };
+    ghost invariant = { λ r. ChainCores r.cores.items };
 }
 
 impl Route {
@@ -47,16 +47,29 @@ impl Route {
         (self.cores.len() - 1) as u8
     }
 
-    /// The newcomer takes the chain: it gets the first core, each task on the chain the next core, and the last one's task drops out.
-    pub fn take_chain(&self, mut seats: [u16; masks::WIDTH], newcomer: u16) -> [u16; masks::WIDTH]
-        ensures { result ≡ take_list seats newcomer self.now }
+    /// Its cores, the newcomer's first.
+    pub fn cores(&self) -> &[u8]
+        ensures is { result.now ≡ self.now }
+        ensures chain { ChainCores result.now }
     {
-        let mut pushed = newcomer;
-        for core in self.cores.as_slice() {
-            pushed = mem::replace(&mut seats[usize::from(*core)], pushed);
-        }
-        seats
+        self.cores.as_slice()
     }
+}
+
+/// The newcomer takes the cores of a chain: it gets the first, each task on the chain the next one, and the last one's task drops out.
+pub fn take_chain(
+    mut seats: [u16; masks::WIDTH],
+    cores: &[u8],
+    newcomer: u16,
+) -> [u16; masks::WIDTH]
+    requires { Cores cores.now }
+    ensures { result ≡ take_list seats newcomer cores.now }
+{
+    let mut pushed = newcomer;
+    for core in cores {
+        pushed = mem::replace(&mut seats[usize::from(*core)], pushed);
+    }
+    seats
 }
 
 // The marks after `limit` rounds, and the cores that have one.

@@ -49,7 +49,7 @@ fn taken(seats: [u16; Dispatcher::CORES], route: &Route, slot: u16, stopped: u16
     ensures { result ≡ taken_by seats route.now slot stopped }
 {
     Shift {
-        seats: route.take_chain(seats, slot),
+        seats: search::take_chain(seats, route.cores(), slot),
         moves: route.moves(),
         started: slot,
         stopped,
