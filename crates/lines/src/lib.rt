@@ -1,11 +1,11 @@
 // Writes report lines as text into lent bytes.
 #![tactic(auto)]
 
-ghost use Rattle.std.specs.Prelude.{◌+◌, ◌≤◌, ◌≡◌, ◌∷◌, ◌++◌, length, take};
+ghost use Rattle.std.specs.Prelude.{◌+◌, ◌≤◌, ◌≡◌, ◌∷◌, ◌++◌, length};
 ghost use Rattle.texts.specs.Joined.{space, each_after, joined};
 ghost use Rattle.dispatcher.specs.Limits.{LegalCount};
 ghost use Rattle.lines.specs.Text.{letter_of, slot_text, event_fields, report_fields, seats_text, line_text};
-ghost use Rattle.lines.specs.Line.{IsLineKind, Stands, Writes, WritesFault};
+ghost use Rattle.lines.specs.Line.{IsLineKind, Writes, WritesFault};
 
 use arrayvec::ArrayVec;
 use dispatcher::{Dispatcher, PlainReport, Refusal};
