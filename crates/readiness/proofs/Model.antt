@@ -4,6 +4,7 @@ use mathlib.Core.Path.{◌≡◌, refl, sym, ◌∙◌}
 use mathlib.Core.Logic.{◌≢◌, ◌⊎◌, inl, inr}
 use mathlib.Core.Bool.{true, false, not, cond}
 use mathlib.Core.List.{List, [], ◌∷◌}
+use Rattle.std.specs.Prelude.{Ok, Err}
 use native.Mathlib.Decide.{ℕ_discrete}
 use native.Mathlib.Omega.{arith}
 use lib.Dec.{eqb}
@@ -18,12 +19,11 @@ use Rattle.seating.proofs.Filling.{fill_of, fill_of_fills}
 use Rattle.dispatcher.specs.Limits.{slot_limit, none}
 use Rattle.dispatcher.specs.Slots.{task_at, seat_at, Used, Ready, Shaped}
 use Rattle.dispatcher.specs.Sound.{Sound}
-use Rattle.dispatcher.specs.Answers.{number_of}
+use Rattle.dispatcher.specs.Answers.{Answer, number_of}
 use Rattle.dispatcher.specs.Unsound.{unsound_refusals}
 use Rattle.dispatcher.specs.Reports.{still_of}
 use Rattle.dispatcher.specs.Promise.{Answered, Promised}
-use Rattle.dispatcher.specs.declared.Answer.{Answer}
-use Rattle.dispatcher.specs.declared.Answer.TheVariants.{Done, AlreadyReady, NotReady}
+use Rattle.dispatcher.specs.declared.Refusal.TheVariants.{AlreadyReady, NotReady}
 use Rattle.dispatcher.specs.declared.Dispatcher.{Dispatcher}
 use Rattle.dispatcher.specs.declared.Outcome.{Outcome}
 use Rattle.dispatcher.proofs.Judging.{test}
@@ -41,8 +41,8 @@ use Rattle.shifting.specs.Picking.{rank_at}
 use Rattle.shifting.proofs.Board.{legal, ranked}
 use Rattle.readiness.specs.Wake.{Woken, Wakes}
 use Rattle.readiness.specs.Block.{freed_of, Refills, Blocked, Blocks}
+use Rattle.readiness.specs.Seats.{shifted_of}
 use Rattle.readiness.proofs.Freeing.{freed_sound}
-use Rattle.readiness.proofs.Turning.{shifted_of}
 use Rattle.readiness.proofs.Sizing.{arrive_sized, fill_sized}
 use Rattle.readiness.proofs.Sitting.{seat_of, run_test, wait_test, cores_fit, seat_sits, run_decides, wait_decides}
 
@@ -96,14 +96,14 @@ woken {d} {slot} L S below used off = record {
 
 -- j is what the check of soundness says
 abbrev wake_answer_of : Answer → Dispatcher → ℕ → Answer
-wake_answer_of j d slot = checked_then j (slot_tests d slot (test (ready_test d slot) AlreadyReady ∷ []))
+wake_answer_of j d slot = checked_then j (slot_tests d slot (test (ready_test d slot) (Err AlreadyReady) ∷ []))
 
 abbrev pub wake_of : Answer → Dispatcher → ℕ → Outcome
 wake_of j d slot = refused_or (wake_answer_of j d slot) d (woken_of d slot)
 
 pub wake_wakes : {d : Dispatcher} (j : Answer) (slot : ℕ) → Shaped d → Answered (unsound_refusals d) d j → Wakes d slot (wake_of j d slot)
 wake_wakes {d} j slot L s =
-    let h = named_and slot j AlreadyReady s (ready_decides d slot) (omega arith) in
+    let h = named_and slot j (Err AlreadyReady) s (ready_decides d slot) (omega arith) in
     refused_or_lem (wake_answer_of j d slot) (woken_of d slot) h (λ z.
     let own = done_own d _ h.answer z in (
       refl,
@@ -115,7 +115,7 @@ wake_wakes {d} j slot L s =
 abbrev blocked_of : Dispatcher → ℕ → Outcome
 blocked_of d slot =
     let z = seat_of d slot in
-    cond (run_test d slot) (shifted_by (freed_of d slot z) (fill_in (freed_of d slot z) z)) (record { report = still_of Done; dispatcher = left_of d slot })
+    cond (run_test d slot) (shifted_by (freed_of d slot z) (fill_in (freed_of d slot z) z)) (record { report = still_of (Ok tt); dispatcher = left_of d slot })
 
 refills : {d : Dispatcher} (z : ℕ) → Shaped d → Sound d → Refills d z (shifted_by d (fill_in d z))
 refills {d} z L S = let f = fill_in_lem z L S in record { rest = refl; size = (fill_sized d.cores none (may_run d) (rank_at d) d.seats (wait_test d) slot_limit z).size; fills = f.0; stops = f.1 }
@@ -137,12 +137,12 @@ blocked {d} {slot} L S real = go (cases (run_test d slot)) (run_decides L S real
     go (inr n) D = rw n (refl, record { waited = λ _. (refl, refl); ran = λ z l e. absurd (D.no n (record { real = real; core = z; below = l; sits = e })) })
 
 abbrev block_answer_of : Answer → Dispatcher → ℕ → Answer
-block_answer_of j d slot = checked_then j (slot_tests d slot (test (not (ready_test d slot)) NotReady ∷ []))
+block_answer_of j d slot = checked_then j (slot_tests d slot (test (not (ready_test d slot)) (Err NotReady) ∷ []))
 
 abbrev pub block_of : Answer → Dispatcher → ℕ → Outcome
 block_of j d slot = refused_or (block_answer_of j d slot) d (blocked_of d slot)
 
 pub block_blocks : {d : Dispatcher} (j : Answer) (slot : ℕ) → Shaped d → Answered (unsound_refusals d) d j → Blocks d slot (block_of j d slot)
 block_blocks {d} j slot L s =
-    let h = named_and slot j NotReady s (decides_not (ready_decides d slot)) (omega arith) in
+    let h = named_and slot j (Err NotReady) s (decides_not (ready_decides d slot)) (omega arith) in
     refused_or_lem (block_answer_of j d slot) (blocked_of d slot) h (λ z. let l = called_below d h.answer z in blocked L (done_sound d h.answer z) (λ e. omega (arith, e, l)))

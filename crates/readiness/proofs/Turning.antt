@@ -1,9 +1,9 @@
 -- What is known where wake and block are accepted, and what a shift then makes of the dispatcher.
 use Prim.Native.Nat.{ℕ, ◌<◌}
 use mathlib.Core.Path.{◌≡◌, refl, sym, ◌∙◌, subst}
-use mathlib.Core.Logic.{◌≢◌, inl, inr}
+use mathlib.Core.Logic.{inl, inr}
 use mathlib.Core.List.{List}
-use native.Mathlib.Omega.{arith}
+use Rattle.std.specs.Prelude.{Ok}
 use lib.ListN.{length, set}
 use Rattle.laws.specs.Answering.{Answers}
 use Rattle.laws.proofs.Answering.{none_applies}
@@ -11,7 +11,6 @@ use Rattle.dispatcher.specs.Limits.{core_limit, none}
 use Rattle.dispatcher.specs.Slots.{task_at, seat_at, Used, Ready, Shaped}
 use Rattle.dispatcher.specs.Sound.{Sound}
 use Rattle.dispatcher.specs.Reports.{still_of}
-use Rattle.dispatcher.specs.declared.Answer.TheVariants.{Done}
 use Rattle.dispatcher.specs.declared.Dispatcher.{Dispatcher}
 use Rattle.dispatcher.specs.declared.Outcome.{Outcome}
 use Rattle.dispatcher.proofs.Promises.{called_below, accepted}
@@ -28,17 +27,13 @@ use Rattle.seating.proofs.Same.{runs_ready}
 use Rattle.shifting.proofs.Board.{core_below, seat_below, legal}
 use Rattle.readiness.specs.Wake.{Woken, wake_refusals, Wakes}
 use Rattle.readiness.specs.Block.{freed_of, Refills, Blocked, block_refusals, Blocks}
-use Rattle.readiness.specs.Seats.{CoreOf, report_of_lem}
+use Rattle.readiness.specs.Seats.{SitsAt, SitsNowhere, shifted_of}
 use Rattle.readiness.proofs.Freeing.{freed_idle, freed_sound}
 use Rattle.dispatcher.proofs.Ready.{ready_real}
 
 -- d with another wake order
 abbrev pub with_order : Dispatcher → List ℕ → Dispatcher
 with_order d l = record { cores = d.cores; tasks = d.tasks; order = l; seats = d.seats }
-
--- d after a shift
-abbrev pub shifted_of : Dispatcher → Shift → Outcome
-shifted_of d s = record { report = report_of_lem s; dispatcher = with_seats d s.seats }
 
 -- ---- wake
 
@@ -67,10 +62,6 @@ module _ {d : Dispatcher} {slot : ℕ} (h : Answers (wake_refusals d slot) 0) wh
 
 -- ---- block
 
-pub core_below_limit : {seats : List ℕ} {slot core : ℕ} → core ≢ core_limit → CoreOf seats slot core → core < core_limit
-core_below_limit n (inl s) = s.below
-core_below_limit n (inr s) = absurd (n s.is)
-
 module _ {d : Dispatcher} {slot : ℕ} (h : Answers (block_refusals d slot) 0) where
   pub blocked_sound : Sound d
   blocked_sound = done_sound d h refl
@@ -81,26 +72,23 @@ module _ {d : Dispatcher} {slot : ℕ} (h : Answers (block_refusals d slot) 0) w
   sits_below : {c : ℕ} → c < core_limit → seat_at d c ≡ slot → c < d.cores
   sits_below l q = seat_below blocked_sound l (λ z. ready_real blocked_ready (sym q ∙ z))
 
-  pub core_idle : {order seats : List ℕ} {core : ℕ} → Shaped d → order ≡ leave_order d.order slot → seats ≡ set d.seats core none → core ≢ core_limit → CoreOf d.seats slot core → Freed (with_seats (with_order d order) seats) core
-  core_idle L q p n (inr s) = absurd (n s.is)
-  core_idle {core = core} L q p n (inl s) =
+  pub core_idle : {order seats : List ℕ} {core : ℕ} → Shaped d → order ≡ leave_order d.order slot → seats ≡ set d.seats core none → SitsAt d.seats slot core → Freed (with_seats (with_order d order) seats) core
+  core_idle {core = core} L q p s =
       let k = sits_below s.below s.sits in
       rw (q, p) (record { sound = (freed_sound L blocked_sound (ready_real blocked_ready) k s.sits).1; below = k; idle = freed_idle L blocked_sound (ready_real blocked_ready) k s.sits })
 
   -- it sits nowhere: the waiting task has left, and that is all
-  pub waited_blocks : {order : List ℕ} {core : ℕ} {r : Outcome} → order ≡ leave_order d.order slot → CoreOf d.seats slot core → core ≡ core_limit
-      → r ≡ record { report = still_of Done; dispatcher = with_order d order } → Blocks d slot r
-  waited_blocks q (inl s) e p = absurd (omega (arith, s.below))
-  waited_blocks {order} q (inr s) e p = rw p (accepted h refl blocked)
+  pub waited_blocks : {order : List ℕ} {r : Outcome} → order ≡ leave_order d.order slot → SitsNowhere d.seats slot
+      → r ≡ record { report = still_of (Ok tt); dispatcher = with_order d order } → Blocks d slot r
+  waited_blocks {order} q s p = rw p (accepted h refl blocked)
     where
-      blocked : Blocked d slot (record { report = still_of Done; dispatcher = with_order d order })
+      blocked : Blocked d slot (record { report = still_of (Ok tt); dispatcher = with_order d order })
       blocked = rw q (record { waited = λ _. (refl, refl); ran = λ z l t. absurd (s.none_sits z (core_below blocked_sound l) t) })
 
   -- it sits on a core, which is filled
-  pub refilled_blocks : {order seats : List ℕ} {core : ℕ} {r : Outcome} (s : Shift) → Shaped d → order ≡ leave_order d.order slot → seats ≡ set d.seats core none → core ≢ core_limit → CoreOf d.seats slot core
+  pub refilled_blocks : {order seats : List ℕ} {core : ℕ} {r : Outcome} (s : Shift) → Shaped d → order ≡ leave_order d.order slot → seats ≡ set d.seats core none → SitsAt d.seats slot core
       → Refilled (with_seats (with_order d order) seats) core s → length s.seats ≡ core_limit → r ≡ shifted_of (with_order d order) s → Blocks d slot r
-  refilled_blocks s L q p n (inr c) f size e = absurd (n c.is)
-  refilled_blocks {order} {seats} {core} s L q p n (inl c) f size e = rw e (accepted h refl blocked)
+  refilled_blocks {order} {seats} {core} s L q p c f size e = rw e (accepted h refl blocked)
     where
       below : core < d.cores
       below = sits_below c.below c.sits

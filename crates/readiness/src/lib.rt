@@ -5,60 +5,52 @@ ghost use Rattle.std.specs.Prelude.{◌≡◌};
 ghost use Rattle.dispatcher.specs.Promise.{Answered};
 ghost use Rattle.readiness.specs.Wake.{wake_refusals, Wakes};
 ghost use Rattle.readiness.specs.Block.{block_refusals, Blocks};
-ghost use Rattle.readiness.specs.Seats.{CoreOf, report_of_lem};
+ghost use Rattle.readiness.specs.Seats.{CoreOf, shifted_of};
 
-use dispatcher::{Answer, Dispatcher, Outcome, Report};
+use dispatcher::{Answer, Dispatcher, Outcome, Refusal, Report};
 use shifting::Shift;
 
 fn wake_answer(d: Dispatcher, slot: u16) -> Answer
     ensures { Answered (wake_refusals d slot) d result }
 {
-    let answer = tasks::named(d, slot);
-    if answer.number() != 0 {
-        return answer;
-    }
+    tasks::named(d, slot)?;
     if d.is_ready(slot) {
-        return Answer::AlreadyReady;
+        return Err(Refusal::AlreadyReady);
     }
-    Answer::Done
+    Ok(())
 }
 
 fn block_answer(d: Dispatcher, slot: u16) -> Answer
     ensures { Answered (block_refusals d slot) d result }
 {
-    let answer = tasks::named(d, slot);
-    if answer.number() != 0 {
-        return answer;
-    }
+    tasks::named(d, slot)?;
     if !d.is_ready(slot) {
-        return Answer::NotReady;
+        return Err(Refusal::NotReady);
     }
-    Answer::Done
+    Ok(())
 }
 
-// The core on which the slot sits, or CORES.
-fn core_of(seats: [u16; Dispatcher::CORES], slot: u16) -> usize
-    ensures { CoreOf seats slot result }
+// The core on which the slot sits.
+fn core_of(seats: &[u16; Dispatcher::CORES], slot: u16) -> Option<usize>
+    ensures { CoreOf seats.now slot result }
 {
-    let mut c: usize = 0;
-    while c < Dispatcher::CORES {
-        if seats[c] == slot {
-            return c;
-        }
-        c += 1;
-    }
-    c
+    seats.iter().position(|sits| *sits == slot)
 }
 
-// The report of a shift.
-fn report_of(shift: Shift) -> Report
-    ensures { result ≡ report_of_lem shift }
+// The dispatcher after a shift, and what is reported of it. Inlined, so that no copy of the dispatcher is made for the call.
+#[inline(always)]
+fn shifted(d: Dispatcher, shift: Shift) -> Outcome
+    ensures { result ≡ shifted_of d shift }
 {
-    Report {
-        answer: Answer::Done,
-        moves: shift.moves,
-        started: shift.started,
-        stopped: shift.stopped,
+    let seats = shift.seats;
+    Outcome {
+        report: Report {
+            answer: Ok(()),
+            moves: shift.moves,
+            started: shift.started,
+            stopped: shift.stopped,
+        },
+        dispatcher: Dispatcher { seats, ..d },
     }
 }
 
@@ -66,60 +58,35 @@ fn report_of(shift: Shift) -> Report
 pub fn wake(d: Dispatcher, slot: u16) -> Outcome
     ensures { Wakes d slot result }
 {
-    let answer = wake_answer(d, slot);
-    if answer.number() != 0 {
-        let report = Report::still(answer);
+    if let Err(refusal) = wake_answer(d, slot) {
         return Outcome {
-            report,
+            report: Report::still(Err(refusal)),
             dispatcher: d,
         };
     }
-    let order = d.order;
-    let longer = order::join(order, slot);
-    let mut next = d;
-    next.order = longer;
-    let shift = shifting::arrive(next, slot);
-    let report = report_of(shift);
-    let seats = shift.seats;
-    next.seats = seats;
-    Outcome {
-        report,
-        dispatcher: next,
-    }
+    let order = order::join(d.order, slot);
+    let next = Dispatcher { order, ..d };
+    shifted(next, shifting::arrive(next, slot))
 }
 
 // The task is no longer ready; if it ran, its core seeks another.
 pub fn block(d: Dispatcher, slot: u16) -> Outcome
     ensures { Blocks d slot result }
 {
-    let answer = block_answer(d, slot);
-    if answer.number() != 0 {
-        let report = Report::still(answer);
+    if let Err(refusal) = block_answer(d, slot) {
         return Outcome {
-            report,
+            report: Report::still(Err(refusal)),
             dispatcher: d,
         };
     }
-    let order = d.order;
-    let shorter = order::leave(order, slot);
-    let seats = d.seats;
-    let core = core_of(seats, slot);
-    let mut next = d;
-    next.order = shorter;
-    if core == Dispatcher::CORES {
-        let report = Report::still(Answer::Done);
+    let order = order::leave(d.order, slot);
+    let mut next = Dispatcher { order, ..d };
+    let Some(core) = core_of(&d.seats, slot) else {
         return Outcome {
-            report,
+            report: Report::still(Ok(())),
             dispatcher: next,
         };
-    }
+    };
     next.seats[core] = Dispatcher::NONE;
-    let shift = shifting::fill(next, core);
-    let report = report_of(shift);
-    let filled = shift.seats;
-    next.seats = filled;
-    Outcome {
-        report,
-        dispatcher: next,
-    }
+    shifted(next, shifting::fill(next, core))
 }
