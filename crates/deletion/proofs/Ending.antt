@@ -3,6 +3,8 @@ use Prim.Native.Nat.{ℕ, ◌<◌}
 use mathlib.Core.Path.{◌≡◌, refl, sym, ap, ◌∙◌}
 use mathlib.Core.Logic.{◌≢◌, ◌⊎◌, inl, inr}
 use mathlib.Core.List.{[], ◌∷◌}
+use Rattle.std.specs.Prelude.{Ok}
+use native.Mathlib.Decide.{ℕ_discrete}
 use native.Mathlib.Omega.{arith}
 use Rattle.laws.specs.Answering.{◌when◌, Applies, Answers}
 use Rattle.laws.proofs.Answering.{applies_split, answers_left, answers_past}
@@ -11,7 +13,6 @@ use Rattle.dispatcher.specs.Slots.{no_task, Ready}
 use Rattle.dispatcher.specs.Answers.{number_of}
 use Rattle.dispatcher.specs.Refusals.{IsNotReady}
 use Rattle.dispatcher.specs.Reports.{still_of}
-use Rattle.dispatcher.specs.declared.Answer.TheVariants.{Done}
 use Rattle.dispatcher.specs.declared.Report.{Report}
 use Rattle.dispatcher.specs.declared.Dispatcher.{Dispatcher}
 use Rattle.dispatcher.specs.declared.Outcome.{Outcome}
@@ -47,10 +48,7 @@ module _ (d : Dispatcher) (slot : ℕ) where
       go (inr (inr a)) = absurd a
 
 module _ {d : Dispatcher} {slot : ℕ} {b : Outcome} (B : Blocks d slot b) where
-  pub not_ready_below : number_of b.report.answer ≡ 10 → slot < slot_limit
-  not_ready_below e = called_below d (past_block d slot (rw e at B.answer)) refl
-
-  pub not_ready_deletes : {r : Outcome} → number_of b.report.answer ≡ 10 → Settles b.dispatcher slot no_task (still_of Done) r → Deletes d slot r
+  not_ready_deletes : {r : Outcome} → number_of b.report.answer ≡ 10 → Settles b.dispatcher slot no_task (still_of (Ok tt)) r → Deletes d slot r
   not_ready_deletes e s =
       let h : Answers (block_refusals d slot) 10 = rw e at B.answer in
       let p = settles_promised (done_answered d (past_block d slot h)) (rw (B.kept (λ z. omega arith)) at s) in
@@ -67,3 +65,11 @@ module _ {d : Dispatcher} {slot : ℕ} {b : Outcome} (B : Blocks d slot b) where
     where
       number : number_of r.report.answer ≡ number_of b.report.answer
       number = ap (λ (x : Report). number_of x.answer) s.report
+
+  -- p is reported after the block: done where it answers 10, and else what it reports
+  module _ {p : Report} (not_ready : number_of b.report.answer ≡ 10 → p ≡ still_of (Ok tt)) (other : number_of b.report.answer ≢ 10 → p ≡ b.report) where
+    pub reported_below : number_of p.answer ≡ 0 → slot < slot_limit
+    reported_below z = elim (ℕ_discrete (number_of b.report.answer) 10) [ yes e ↦ called_below d (past_block d slot (rw e at B.answer)) refl | no n ↦ called_below d B.answer (rw (other n) at z) ]
+
+    pub reported_deletes : {r : Outcome} → Settles b.dispatcher slot no_task p r → Deletes d slot r
+    reported_deletes s = elim (ℕ_discrete (number_of b.report.answer) 10) [ yes e ↦ not_ready_deletes e (rw (not_ready e) at s) | no n ↦ block_deletes n (rw (other n) at s) ]

@@ -39,10 +39,11 @@ fn core_of(seats: &[u16; Dispatcher::CORES], slot: u16) -> Option<usize>
 
 // The dispatcher after a shift, and what is reported of it. Inlined, so that no copy of the dispatcher is made for the call.
 #[inline(always)]
-fn shifted(d: Dispatcher, shift: Shift) -> Outcome
+fn shifted(mut d: Dispatcher, shift: Shift) -> Outcome
     ensures { result ≡ shifted_of d shift }
 {
     let seats = shift.seats;
+    d.seats = seats;
     Outcome {
         report: Report {
             answer: Ok(()),
@@ -50,12 +51,12 @@ fn shifted(d: Dispatcher, shift: Shift) -> Outcome
             started: shift.started,
             stopped: shift.stopped,
         },
-        dispatcher: Dispatcher { seats, ..d },
+        dispatcher: d,
     }
 }
 
 // The task becomes ready, last among equals, and seeks a core.
-pub fn wake(d: Dispatcher, slot: u16) -> Outcome
+pub fn wake(mut d: Dispatcher, slot: u16) -> Outcome
     ensures { Wakes d slot result }
 {
     if let Err(refusal) = wake_answer(d, slot) {
@@ -65,12 +66,12 @@ pub fn wake(d: Dispatcher, slot: u16) -> Outcome
         };
     }
     let order = order::join(d.order, slot);
-    let next = Dispatcher { order, ..d };
-    shifted(next, shifting::arrive(next, slot))
+    d.order = order;
+    shifted(d, shifting::arrive(d, slot))
 }
 
 // The task is no longer ready; if it ran, its core seeks another.
-pub fn block(d: Dispatcher, slot: u16) -> Outcome
+pub fn block(mut d: Dispatcher, slot: u16) -> Outcome
     ensures { Blocks d slot result }
 {
     if let Err(refusal) = block_answer(d, slot) {
@@ -80,13 +81,13 @@ pub fn block(d: Dispatcher, slot: u16) -> Outcome
         };
     }
     let order = order::leave(d.order, slot);
-    let mut next = Dispatcher { order, ..d };
+    d.order = order;
     let Some(core) = core_of(&d.seats, slot) else {
         return Outcome {
             report: Report::still(Ok(())),
-            dispatcher: next,
+            dispatcher: d,
         };
     };
-    next.seats[core] = Dispatcher::NONE;
-    shifted(next, shifting::fill(next, core))
+    d.seats[core] = Dispatcher::NONE;
+    shifted(d, shifting::fill(d, core))
 }
