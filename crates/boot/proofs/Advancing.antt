@@ -1,9 +1,9 @@
--- The loop over the records meets the promise about the whole list.
-use Prim.Native.Nat.{ℕ, ◌+◌, ◌≤◌, ◌<◌}
+-- The records of a list, one after the other: how far a load has come, and what it comes to.
+use Prim.Native.Nat.{ℕ, ◌+◌, ◌<◌}
 use mathlib.Core.Path.{◌≡◌, refl, sym, ap, ◌∙◌}
 use mathlib.Core.Logic.{◌≢◌, inl, inr}
-use mathlib.Core.List.{List, [], ◌∷◌}
-use native.Mathlib.Decide.{ℕ_discrete}
+use Rattle.std.specs.Prelude.{Ok}
+use mathlib.Core.List.{List, ◌∷◌}
 use native.Mathlib.Nat.{add-zero}
 use native.Mathlib.Omega.{arith}
 use lib.ListN.{length, drop, length-drop}
@@ -11,94 +11,83 @@ use lib.Seq.{get_or-drop, drop-drop}
 use Rattle.laws.specs.Answering.{Answers}
 use Rattle.dispatcher.specs.Slots.{no_record, Shaped}
 use Rattle.dispatcher.specs.Sound.{Sound}
-use Rattle.dispatcher.specs.Answers.{number_of}
+use Rattle.dispatcher.specs.Answers.{Answer, number_of}
 use Rattle.dispatcher.specs.Unsound.{unsound_refusals}
 use Rattle.dispatcher.specs.Reports.{still_of}
 use Rattle.dispatcher.specs.Promise.{Answered}
-use Rattle.dispatcher.specs.declared.Report.{Report}
 use Rattle.dispatcher.specs.declared.TaskRecord.{TaskRecord}
 use Rattle.dispatcher.specs.declared.Dispatcher.{Dispatcher}
-use Rattle.dispatcher.proofs.Unsound.{not_first, done_sound, unsound_is_first, unsound_first, sound_then}
-use Rattle.boot.specs.Load.{record_at, record_refusals, FirstRefused, list_refusals, load_refusals, Names, Loads}
-use Rattle.boot.specs.Loading.{Begins, Advances, AdvancesAll, Ends}
-use Rattle.boot.specs.declared.Loading.{Loading}
-use Rattle.boot.specs.declared.Loaded.{Loaded}
-use Rattle.boot.proofs.Refusing.{entry_record, Accepted, accepted_next, record_later, list_later, refused_answers, accepted_answers}
-use Rattle.boot.proofs.Filling.{Filling, filling_created, filling_none, filling_alike, filling_next}
+use Rattle.dispatcher.proofs.Unsound.{not_first, unsound_is_first, unsound_first, sound_then}
+use Rattle.boot.specs.Load.{record_at, FirstRefused, list_refusals, Loads}
+use Rattle.boot.specs.Loading.{Filling, Comes}
+use Rattle.boot.proofs.Refusing.{entry_of, entry_record, Accepted, accepted_next, record_later, list_later, refused_answers, accepted_answers}
+use Rattle.boot.proofs.Filling.{with_record, filling_created, filling_none, filling_alike, filling_next}
 
--- where the load stands after i records
-data Stands (d : Dispatcher) (list : List TaskRecord) (i : ℕ) (s : Loading) : Type 0 where
-  unsound : Answered (unsound_refusals d) d s.answer → number_of s.answer ≢ 0 → s.index ≡ 0 → Stands d list i s
-  refused : Sound d → FirstRefused d list s.index (number_of s.answer) → Stands d list i s
-  going : Sound d → number_of s.answer ≡ 0 → s.index ≡ 0 → Accepted d list i → Filling d list i s.dispatcher → Stands d list i s
+-- e is what the first k records have made of d, and none of them was refused
+pub record Goes (d : Dispatcher) (list : List TaskRecord) (k : ℕ) (e : Dispatcher) : Type 0 where
+  pub sound : Sound d
+  pub before : Accepted d list k
+  pub filling : Filling d list k e
 
-begun : {d : Dispatcher} {s : Loading} (list : List TaskRecord) → Begins d s → Stands d list 0 s
-begun {d} {s} list b = go (ℕ_discrete (number_of s.answer) 0)
-  where
-    go : Dec (number_of s.answer ≡ 0) → Stands d list 0 s
-    go (yes z) = going (done_sound d b.answer.answer z) z b.index (λ j l. absurd (omega arith)) (rw b.dispatcher (filling_none d list))
-    go (no z) = unsound b.answer z b.index
+pub goes_none : {d : Dispatcher} (list : List TaskRecord) → Sound d → Goes d list 0 d
+goes_none {d} list S = record { sound = S; before = λ j l. absurd (omega arith); filling = filling_none d list }
 
-module _ {d : Dispatcher} {list : List TaskRecord} (L : Shaped d) where
-  advanced : {i : ℕ} {s q : Loading} → i < length list → Advances s i (record_at list i) q → Stands d list i s → Stands d list (i + 1) q
-  advanced l A (unsound u e x) = rw (A.passed e) (unsound u e x)
-  advanced l A (refused v f) = rw (A.passed f.refused) (refused v f)
-  advanced {i} {s} {q} l A (going v z x before F) = go (ℕ_discrete (number_of q.answer) 0)
-    where
-      judged : Answers (record_refusals d list i) (number_of q.answer)
-      judged = entry_record (filling_alike F before) (A.judged z)
+module _ {d e : Dispatcher} {list : List TaskRecord} {k : ℕ} (g : Goes d list k e) where
+  -- the next record is refused, or it is created
+  pub goes_next : Shaped d → Answers (entry_of e (record_at list k)) 0 → Goes d list (k + 1) (with_record e (record_at list k))
+  goes_next L a =
+      let accepted = entry_record (filling_alike g.filling g.before) a in
+      record { sound = g.sound; before = accepted_next d list k g.before accepted; filling = filling_next L g.filling accepted }
 
-      go : Dec (number_of q.answer ≡ 0) → Stands d list (i + 1) q
-      go (yes y) =
-          let a : Answers (record_refusals d list i) 0 = rw y at judged in
-          going v y ((A.created z y).0 ∙ x) (accepted_next d list i before a) (rw (A.created z y).1 (filling_next L F a))
-      go (no y) = refused v (rw (A.refused z y).0 (record { within = l; number = judged; refused = y; earlier = before }))
+  pub goes_refused : {n : ℕ} → k < length list → Answers (entry_of e (record_at list k)) n → n ≢ 0 → FirstRefused d list k n
+  goes_refused l a z = record { within = l; number = entry_record (filling_alike g.filling g.before) a; refused = z; earlier = g.before }
 
-  advanced_all : {s r : Loading} (ts : List TaskRecord) (i : ℕ) → drop i list ≡ ts → i ≤ length list → AdvancesAll i s ts r → Stands d list i s → Stands d list (length list) r
-  advanced_all [] i e l A S =
-      let n = length-drop i list in
-      let m : length (drop i list) ≡ 0 = rw e refl in
-      let same : length list ≡ i = omega arith in
-      rw (same, A) S
-  advanced_all (t ∷ ts) i e l (q, A, rest) S =
-      let n = length-drop i list in
-      let m = ap length e in
-      let head : record_at list i ≡ t = rw (← add-zero i, ← get_or-drop i list 0 no_record, e) refl in
-      let tail : drop (i + 1) list ≡ ts = sym (drop-drop 1 i list) ∙ ap (drop 1) e in
-      advanced_all ts (i + 1) tail (omega arith) rest (advanced (omega arith) (rw head A) S)
+-- ---- what the list comes to
 
--- what all the records come to
-abbrev Comes : Dispatcher → List TaskRecord → Loading → Type 0
-Comes d list s = Answered (load_refusals d list) d s.answer × (number_of s.answer ≡ 0 → Filling d list (length list) s.dispatcher) × Names d list (number_of s.answer) s.index
+module _ {d : Dispatcher} {list : List TaskRecord} {e : Dispatcher} where
+  pub comes_unsound : (a : Answer) → Answered (unsound_refusals d) d a → number_of a ≢ 0 → Comes d list a 0 e
+  comes_unsound a u z = record {
+    answer = unsound_first (list_refusals d list) (list_later d list) u z;
+    names = record { whole = λ _. refl; record_number = λ n out. absurd (out (unsound_is_first d u.answer n)) };
+    filled = λ y. absurd (z y);
+  }
 
-comes : {d : Dispatcher} {list : List TaskRecord} {s : Loading} → Stands d list (length list) s → Comes d list s
-comes {d} {list} (unsound u e x) =
-    (unsound_first (list_refusals d list) (list_later d list) u e, λ z. absurd (e z), record { whole = λ _. x; record_number = λ _ n. absurd (n (unsound_is_first d u.answer e)) })
-comes {d} {list} (refused v f) = (
-  sound_then (list_refusals d list) (list_later d list) v (refused_answers f),
-  λ z. absurd (f.refused z),
-  record { whole = λ h. elim h [ inl z ↦ absurd (f.refused z) | inr e ↦ absurd (not_first _ (record_later f) e) ]; record_number = λ _ _. f },
-)
-comes {d} {list} (going v z x before F) =
-    (sound_then (list_refusals d list) (list_later d list) v (rw z (accepted_answers before)), λ _. F, record { whole = λ _. x; record_number = λ n _. absurd (n z) })
+  pub comes_refused : (a : Answer) {i : ℕ} → Sound d → FirstRefused d list i (number_of a) → Comes d list a i e
+  comes_refused a S f = record {
+    answer = sound_then (list_refusals d list) (list_later d list) S (refused_answers f);
+    names = record { whole = λ h. elim h [ inl z ↦ absurd (f.refused z) | inr first ↦ absurd (not_first _ (record_later f) first) ]; record_number = λ _ _. f };
+    filled = λ z. absurd (f.refused z);
+  }
 
-ended : {d : Dispatcher} {list : List TaskRecord} {s : Loading} {r : Loaded} → Comes d list s → Ends d s r → Loads d list r
-ended {d} {list} {s} {r} (answers, filling, names) E = record {
+  pub comes_done : Goes d list (length list) e → Comes d list (Ok tt) 0 e
+  comes_done g = record {
+    answer = sound_then (list_refusals d list) (list_later d list) g.sound (accepted_answers g.before);
+    names = record { whole = λ _. refl; record_number = λ n _. absurd (n refl) };
+    filled = λ _. g.filling;
+  }
+
+-- all the records stay, or none
+pub comes_loads : {d e f : Dispatcher} {list : List TaskRecord} {index : ℕ} (a : Answer) → Comes d list a index e → (number_of a ≡ 0 → f ≡ e) → (number_of a ≢ 0 → f ≡ d)
+    → Loads d list (record { report = record { report = still_of a; index = index }; dispatcher = f })
+comes_loads a c done kept = record {
   all_or_none = record {
-    answer = rw number answers.answer;
-    place = rw (ap (λ (x : Report). x.answer) E.report) answers.place;
-    done = λ z. filling_created (rw (E.done (sym number ∙ z)) (filling (sym number ∙ z))) own;
-    kept = λ z. E.refused (λ y. z (number ∙ y));
-    still = λ _. own;
+    answer = c.answer.answer;
+    place = c.answer.place;
+    done = λ z. filling_created (rw (done z) (c.filled z)) refl;
+    kept = kept;
+    still = λ _. refl;
   };
-  names = rw (number, E.index) names;
+  names = c.names;
 }
-  where
-    number : number_of r.report.report.answer ≡ number_of s.answer
-    number = ap (λ (x : Report). number_of x.answer) E.report
 
-    own : r.report.report ≡ still_of r.report.report.answer
-    own = E.report ∙ ap (λ (x : Report). still_of x.answer) (sym E.report)
+-- ---- the records that are left
 
-pub loads_of : {d : Dispatcher} {list : List TaskRecord} {s₀ s : Loading} {r : Loaded} → Shaped d → Begins d s₀ → AdvancesAll 0 s₀ list s → Ends d s r → Loads d list r
-loads_of {list = list} L B A E = ended (comes (advanced_all L list 0 refl (omega arith) A (begun list B))) E
+module _ (list : List TaskRecord) {t : TaskRecord} (ts : List TaskRecord) (i : ℕ) (left : drop i list ≡ t ∷ ts) where
+  pub left_below : i < length list
+  left_below = omega (arith, length-drop i list, ap length left)
+
+  pub left_here : record_at list i ≡ t
+  left_here = rw (← add-zero i, ← get_or-drop i list 0 no_record, left) refl
+
+  pub left_later : drop (i + 1) list ≡ ts
+  left_later = sym (drop-drop 1 i list) ∙ ap (drop 1) left

@@ -1,10 +1,11 @@
 -- An accepted load is the creates one after the other, and a refused one stops at the record whose create is refused, with its number.
 use Prim.Native.Nat.{ℕ, zero, suc, ◌+◌, ◌≤◌}
-use mathlib.Core.Path.{◌≡◌, refl}
+use mathlib.Core.Path.{◌≡◌, refl, ap}
+use Rattle.std.specs.Prelude.{Ok}
 use mathlib.Core.List.{List, [], ◌∷◌, ◌++◌}
 use native.Mathlib.Numerals.{add-one}
 use native.Mathlib.Omega.{arith}
-use lib.ListN.{length, take}
+use lib.ListN.{length, take, drop, length-drop}
 use lib.Seq.{take-suc, take-length}
 use Rattle.laws.specs.Lists.{All}
 use Rattle.laws.specs.Answering.{Answers}
@@ -16,20 +17,18 @@ use Rattle.dispatcher.specs.Sound.{Sound}
 use Rattle.dispatcher.specs.Answers.{number_of}
 use Rattle.dispatcher.specs.Unsound.{unsound_refusals}
 use Rattle.dispatcher.specs.Reports.{still_of}
-use Rattle.dispatcher.specs.declared.Answer.TheVariants.{Done}
 use Rattle.dispatcher.specs.declared.TaskRecord.{TaskRecord}
 use Rattle.dispatcher.specs.declared.Dispatcher.{Dispatcher}
 use Rattle.dispatcher.specs.declared.Outcome.{Outcome}
-use Rattle.dispatcher.proofs.Unsound.{sound_answers, sound_own, done_sound, sound_answered}
+use Rattle.dispatcher.proofs.Unsound.{sound_answers, sound_own, done_sound}
 use Rattle.dispatcher.proofs.Promises.{accepted}
 use Rattle.tasks.proofs.Keeping.{create_keeps}
 use Rattle.boot.specs.Load.{record_at, FirstRefused, AllOrNone}
 use Rattle.boot.specs.Creating.{CreatesRecord, CreatesAll}
-use Rattle.boot.specs.Loading.{AdvancesAll}
-use Rattle.boot.specs.declared.Loading.{Loading}
+use Rattle.boot.specs.Loading.{Filling}
 use Rattle.boot.proofs.Refusing.{entry_of, entry_record, record_entry, Accepted, all_accepted}
-use Rattle.boot.proofs.Filling.{with_record, Filling, created_filling, filling_none, filling_same, filling_alike, filling_next}
-use Rattle.boot.proofs.Advancing.{loads_of}
+use Rattle.boot.proofs.Filling.{with_record, created_filling, filling_none, filling_same, filling_alike, filling_next}
+use Rattle.boot.proofs.Advancing.{Goes, goes_none, goes_next, comes_done, comes_loads, left_below, left_here, left_later}
 
 -- a sound dispatcher refuses a task for the entry's causes alone
 entry_of_create : {d : Dispatcher} {t : TaskRecord} {r : Outcome} → Sound d → CreatesRecord d t r → Answers (entry_of d t) (number_of r.report.answer)
@@ -57,7 +56,7 @@ made {d} {list} L S bytes (suc k) l h = next (made L S bytes k (omega arith) (λ
   where
     next : Made d list k → Made d list (suc k)
     next m =
-        let r : Outcome = record { report = still_of Done; dispatcher = with_record m.dispatcher (record_at list k) } in
+        let r : Outcome = record { report = still_of (Ok tt); dispatcher = with_record m.dispatcher (record_at list k) } in
         let entry = record_entry (filling_alike m.filling (λ j i. h j (omega arith))) (h k (omega arith)) in
         let answers = answers_then (unsound_refusals m.dispatcher) _ (sound_answers m.dispatcher m.sound) entry in
         let C : CreatesRecord m.dispatcher (record_at list k) r = accepted answers refl (record { written = refl; still = refl }) in
@@ -85,24 +84,19 @@ refused_create {list = list} {i} L S bytes f =
 
 -- ---- accepted creates, by a load
 
-abbrev done : Dispatcher → Loading
-done d = record { answer = Done; index = 0; dispatcher = d }
+creates_go : {d : Dispatcher} {list : List TaskRecord} (e f : Dispatcher) (ts : List TaskRecord) (i : ℕ) → Shaped d → drop i list ≡ ts → i ≤ length list → CreatesAll e ts f → Goes d list i e
+    → Goes d list (length list) f
+creates_go {d} {list} e f [] i L left l same g =
+    let end : length list ≡ i = omega (arith, length-drop i list, ap length left) in
+    rw (end, same) g
+creates_go {d} {list} e f (t ∷ ts) i L left l (r, C, z, rest) g = creates_go r.dispatcher f ts (i + 1) L (left_later list ts i left) (omega (arith, left_below list ts i left)) rest next
+  where
+    entry : Answers (entry_of e (record_at list i)) 0
+    entry = rw (left_here list ts i left) (rw z at (entry_of_create (done_sound e C.answer z) C))
 
-creates_advances : (d e : Dispatcher) (i : ℕ) (list : List TaskRecord) → CreatesAll d list e → AdvancesAll i (done d) list (done e)
-creates_advances d e i [] h = rw h refl
-creates_advances d e i (t ∷ ts) (r, C, z, rest) = (
-  done r.dispatcher,
-  record {
-    passed = λ n. absurd (n refl);
-    judged = λ _. rw z at (entry_of_create (done_sound d C.answer z) C);
-    created = λ _ _. (refl, (C.done z).written);
-    refused = λ _ n. absurd (n refl);
-  },
-  creates_advances r.dispatcher e (i + 1) ts rest,
-)
+    next : Goes d list (i + 1) r.dispatcher
+    next = rw ((C.done z).written, ← left_here list ts i left) (goes_next g L entry)
 
-pub creates_load : {d e : Dispatcher} {list : List TaskRecord} → Shaped d → Sound d → CreatesAll d list e → AllOrNone d list (record { report = still_of Done; dispatcher = e })
-creates_load {d} {e} {list} L S C = (loads_of {s = done e} {r = record { report = record { report = still_of Done; index = 0 }; dispatcher = e }} L
-    (record { answer = sound_answered S; index = refl; dispatcher = refl })
-    (creates_advances d e 0 list C)
-    (record { report = refl; index = refl; done = λ _. refl; refused = λ n. absurd (n refl) })).all_or_none
+pub creates_load : {d e : Dispatcher} {list : List TaskRecord} → Shaped d → Sound d → CreatesAll d list e → AllOrNone d list (record { report = still_of (Ok tt); dispatcher = e })
+creates_load {d} {e} {list} L S C =
+    (comes_loads (Ok tt) (comes_done (creates_go d e list 0 L refl (omega arith) C (goes_none list S))) (λ _. refl) (λ n. absurd (n refl))).all_or_none

@@ -18,20 +18,12 @@ use Rattle.dispatcher.specs.declared.Dispatcher.{Dispatcher}
 use Rattle.dispatcher.specs.declared.Outcome.{Outcome}
 use Rattle.tasks.specs.Table.{with_task}
 use Rattle.boot.specs.Load.{record_at, record_refusals, AllCreated}
-use Rattle.boot.proofs.Refusing.{NamedBy, NamedByNone, named_or_not, Alike, Accepted}
+use Rattle.boot.specs.Loading.{NamedByNone, Filling}
+use Rattle.boot.proofs.Refusing.{NamedBy, named_or_not, Alike, Accepted}
 
 -- what a dispatcher makes of a record that it does not refuse
 abbrev pub with_record : Dispatcher → TaskRecord → Dispatcher
 with_record d t = with_task d t.slot (task_of t)
-
--- e is d with the first k records in their slots
-pub record Filling (d : Dispatcher) (list : List TaskRecord) (k : ℕ) (e : Dispatcher) : Type 0 where
-  pub cores : e.cores ≡ d.cores
-  pub size : length e.tasks ≡ length d.tasks
-  pub named : (i : ℕ) → i < k → task_at e (record_at list i).slot ≡ task_of (record_at list i)
-  pub others : (s : ℕ) → NamedByNone list k s → task_at e s ≡ task_at d s
-  pub order : e.order ≡ d.order
-  pub seats : e.seats ≡ d.seats
 
 pub created_filling : {d : Dispatcher} {list : List TaskRecord} {r : Outcome} → AllCreated d list r → Filling d list (length list) r.dispatcher
 created_filling f = record { cores = f.cores; size = f.size; named = f.named; others = f.others; order = f.order; seats = f.seats }

@@ -1,7 +1,7 @@
 -- The first refused record of a list: there is at most one, a load answers by it, and where a load is done there is none.
 use Prim.Native.Nat.{ℕ, zero, suc, ◌+◌, ◌≤◌, ◌<◌}
 use mathlib.Core.Path.{◌≡◌, refl, sym, subst}
-use mathlib.Core.Logic.{◌≢◌, ◌⊎◌, inl, inr}
+use mathlib.Core.Logic.{◌⊎◌, inl, inr}
 use mathlib.Core.List.{List}
 use native.Mathlib.Decide.{ℕ_discrete}
 use native.Mathlib.Numerals.{add-one}
@@ -21,13 +21,11 @@ use Rattle.dispatcher.proofs.Unsound.{IsLater, done_own}
 use Rattle.tasks.specs.Create.{entry_refusals}
 use Rattle.tasks.proofs.Model.{entry_answers}
 use Rattle.boot.specs.Load.{record_at, NamedBefore, record_refusals, FirstRefused, RecordGives, list_refusals, load_refusals}
+use Rattle.boot.specs.Loading.{NamedByNone}
 
--- one of the first k records names slot s; none does
+-- one of the first k records names slot s
 abbrev pub NamedBy : List TaskRecord → ℕ → ℕ → Type 0
 NamedBy list k s = (i : ℕ) × (i < k) × ((record_at list i).slot ≡ s)
-
-abbrev pub NamedByNone : List TaskRecord → ℕ → ℕ → Type 0
-NamedByNone list k s = (i : ℕ) → i < k → (record_at list i).slot ≢ s
 
 pub named_or_not : (list : List TaskRecord) (k s : ℕ) → NamedBy list k s ⊎ NamedByNone list k s
 named_or_not list k s = elim (find (λ i. eqb (record_at list i).slot s) k) [ inl (i, l, t) ↦ inl (i, l, eqb_eq t) | inr n ↦ inr (λ i l. eqb_ne (n i l)) ]

@@ -1,39 +1,27 @@
--- How far a load has come: the records so far are created, or one was refused and the rest are passed over.
-use Rattle.std.specs.Prelude.{ℕ, ◌+◌, ◌≡◌, ◌≢◌, List, [], ◌∷◌}
-use Rattle.laws.specs.Answering.{Answers}
-use Rattle.dispatcher.specs.Slots.{task_of}
-use Rattle.dispatcher.specs.Answers.{number_of}
-use Rattle.dispatcher.specs.Unsound.{unsound_refusals}
-use Rattle.dispatcher.specs.Reports.{still_of}
+-- What the records of a list come to: all of them stand in their slots, or one was refused.
+use Rattle.std.specs.Prelude.{ℕ, ◌<◌, ◌≡◌, ◌≢◌, List, length}
+use Rattle.dispatcher.specs.Slots.{task_at, task_of}
+use Rattle.dispatcher.specs.Answers.{Answer, number_of}
 use Rattle.dispatcher.specs.Promise.{Answered}
 use Rattle.dispatcher.specs.declared.TaskRecord.{TaskRecord}
 use Rattle.dispatcher.specs.declared.Dispatcher.{Dispatcher}
-use Rattle.tasks.specs.Table.{with_task}
-use Rattle.tasks.specs.Create.{entry_refusals}
-use Rattle.boot.specs.declared.Loading.{Loading}
-use Rattle.boot.specs.declared.Loaded.{Loaded}
+use Rattle.boot.specs.Load.{record_at, load_refusals, Names}
 
--- no record was looked at yet
-pub record Begins (d : Dispatcher) (s : Loading) : Type 0 where
-  pub answer : Answered (unsound_refusals d) d s.answer
-  pub index : s.index ≡ 0
-  pub dispatcher : s.dispatcher ≡ d
+-- none of the first k records names slot s
+abbrev pub NamedByNone : List TaskRecord → ℕ → ℕ → Type 0
+NamedByNone list k s = (i : ℕ) → i < k → (record_at list i).slot ≢ s
 
--- record i is looked at where none was refused, and created where it is not refused
-pub record Advances (s : Loading) (i : ℕ) (t : TaskRecord) (r : Loading) : Type 0 where
-  pub passed : number_of s.answer ≢ 0 → r ≡ s
-  pub judged : number_of s.answer ≡ 0 → Answers (entry_refusals s.dispatcher t.slot t.priority t.mask) (number_of r.answer)
-  pub created : number_of s.answer ≡ 0 → number_of r.answer ≡ 0 → (r.index ≡ s.index) × (r.dispatcher ≡ with_task s.dispatcher t.slot (task_of t))
-  pub refused : number_of s.answer ≡ 0 → number_of r.answer ≢ 0 → (r.index ≡ i) × (r.dispatcher ≡ s.dispatcher)
+-- e is d with the first k records in their slots
+pub record Filling (d : Dispatcher) (list : List TaskRecord) (k : ℕ) (e : Dispatcher) : Type 0 where
+  pub cores : e.cores ≡ d.cores
+  pub size : length e.tasks ≡ length d.tasks
+  pub named : (i : ℕ) → i < k → task_at e (record_at list i).slot ≡ task_of (record_at list i)
+  pub others : (s : ℕ) → NamedByNone list k s → task_at e s ≡ task_at d s
+  pub order : e.order ≡ d.order
+  pub seats : e.seats ≡ d.seats
 
--- the records of a list, from the i-th on
-abbrev pub AdvancesAll : ℕ → Loading → List TaskRecord → Loading → Type 0
-AdvancesAll i s [] r = r ≡ s
-AdvancesAll i s (t ∷ ts) r = (q : Loading) × Advances s i t q × AdvancesAll (i + 1) q ts r
-
--- all stay, or none
-pub record Ends (d : Dispatcher) (s : Loading) (r : Loaded) : Type 0 where
-  pub report : r.report.report ≡ still_of s.answer
-  pub index : r.report.index ≡ s.index
-  pub done : number_of s.answer ≡ 0 → r.dispatcher ≡ s.dispatcher
-  pub refused : number_of s.answer ≢ 0 → r.dispatcher ≡ d
+-- the answer of a load with the index that goes with it; where it is done, e has all the records
+pub record Comes (d : Dispatcher) (list : List TaskRecord) (a : Answer) (index : ℕ) (e : Dispatcher) : Type 0 where
+  pub answer : Answered (load_refusals d list) d a
+  pub names : Names d list (number_of a) index
+  pub filled : number_of a ≡ 0 → Filling d list (length list) e

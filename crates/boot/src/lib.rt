@@ -1,111 +1,66 @@
 // The boot list by value: all its records are created in order, or none.
 #![tactic(auto)]
 
+ghost use Rattle.std.specs.Prelude.{Ok, Err, MatchResult};
 ghost use Rattle.boot.specs.Load.{Loads};
-ghost use Rattle.boot.specs.Loading.{Begins, Advances, AdvancesAll, Ends};
+ghost use Rattle.boot.specs.Loading.{Comes};
 
-use dispatcher::{Answer, Dispatcher, Report, Task, TaskRecord};
+use dispatcher::{Dispatcher, Refusal, Report, Task, TaskRecord};
 
 // The report of a load: the index of the first refused record, or 0.
-#[derive(Clone, Copy)]
+#[derive(Clone, Copy, Debug, PartialEq, Eq)]
 pub struct LoadReport {
     pub report: Report,
     pub index: usize,
 }
 
-#[derive(Clone, Copy)]
+#[derive(Clone, Copy, Debug, PartialEq, Eq)]
 pub struct Loaded {
     pub report: LoadReport,
     pub dispatcher: Dispatcher,
 }
 
-// How far a load has come: Done and the records so far in their slots, or the refusal.
-#[derive(Clone, Copy)]
-struct Loading {
-    answer: Answer,
+// Why a list is refused, and the index of the record that is; 0 where the dispatcher is not sound.
+#[derive(Clone, Copy, Debug, PartialEq, Eq)]
+struct Refused {
+    refusal: Refusal,
     index: usize,
-    dispatcher: Dispatcher,
 }
 
-// A load that has looked at no record.
-fn start(d: Dispatcher) -> Loading
-    ensures { Begins d result }
+// All the records in order, up to the first that is refused. A create keeps a sound dispatcher sound, so soundness is asked once.
+fn create_all(d: &mut Dispatcher, list: &[TaskRecord]) -> Result<(), Refused>
+    ensures { MatchResult result (λ done. Comes d.old list.now (Ok done) 0 d.new) (λ r. Comes d.old list.now (Err r.refusal) r.index d.new) }
 {
-    let unsound = soundness::check(d);
-    Loading {
-        answer: unsound,
-        index: 0,
-        dispatcher: d,
-    }
-}
-
-// Record i; it is passed over once a record was refused. A create keeps a sound dispatcher sound, so soundness is not asked again.
-fn step(s: Loading, i: usize, t: TaskRecord) -> Loading
-    ensures { Advances s i t result }
-{
-    let before = s.answer;
-    if before.number() != 0 {
-        return s;
-    }
-    let mut next = s.dispatcher;
-    let answer = tasks::entry(next, t.slot, t.priority, t.mask);
-    if answer.number() != 0 {
-        return Loading {
-            answer,
-            index: i,
-            dispatcher: next,
+    soundness::check(*d).map_err(|refusal| Refused { refusal, index: 0 })?;
+    for (index, t) in list.iter().enumerate() {
+        tasks::entry(*d, t.slot, t.priority, t.mask).map_err(|refusal| Refused { refusal, index })?;
+        d.tasks[usize::from(t.slot)] = Task {
+            priority: t.priority,
+            mask: t.mask,
         };
     }
-    let at = t.slot as usize;
-    next.tasks[at] = Task {
-        priority: t.priority,
-        mask: t.mask,
-    };
-    Loading {
-        answer,
-        index: s.index,
-        dispatcher: next,
-    }
-}
-
-// All the records, in order.
-fn all(from: Loading, list: &[TaskRecord]) -> Loading
-    ensures { AdvancesAll 0 from list.now result }
-{
-    let mut s = from;
-    let mut i: usize = 0;
-    while i < list.len() {
-        s = step(s, i, list[i]);
-        i += 1;
-    }
-    s
-}
-
-// All stay, or none.
-fn finish(before: Dispatcher, s: Loading) -> Loaded
-    ensures { Ends before s result }
-{
-    let answer = s.answer;
-    let after = s.dispatcher;
-    let report = LoadReport {
-        report: Report::still(answer),
-        index: s.index,
-    };
-    if answer.number() != 0 {
-        return Loaded {
-            report,
-            dispatcher: before,
-        };
-    }
-    Loaded {
-        report,
-        dispatcher: after,
-    }
+    Ok(())
 }
 
 // Creates every record of the list, or none.
 pub fn load(d: Dispatcher, list: &[TaskRecord]) -> Loaded
     ensures { Loads d list.now result }
 {
-    finish(d, all(start(d), list))
+    let mut next = d;
+    match create_all(&mut next, list) {
+        Ok(()) => Loaded {
+            report: LoadReport {
+                report: Report::still(Ok(())),
+                index: 0,
+            },
+            dispatcher: next,
+        },
+        Err(refused) => Loaded {
+            report: LoadReport {
+                report: Report::still(Err(refused.refusal)),
+                index: refused.index,
+            },
+            dispatcher: d,
+        },
+    }
 }

@@ -1,10 +1,12 @@
--- `load` meets its promise: it begins, goes through all records, and ends.
-use Rattle.dispatcher.specs.Slots.{Shaped}
-use borrow.Author.Rules.{rules}
-use Rattle.boot.proofs.Advancing.{loads_of}
+-- `load` meets its promise: all that the records made stays, or none of it.
+use mathlib.Core.Path.{refl}
+use Rattle.std.specs.Prelude.{Ok}
+use Rattle.dispatcher.proofs.Same.{refusal_positive}
+use Rattle.boot.proofs.Advancing.{comes_loads}
 use Rattle.boot.proofs.load.Goals as goal
 
-pub returns : goal.returns
-returns c =
-    let shaped : Shaped c.args.d = record { tasks = search rules; order = search rules; seats = search rules } in
-    loads_of shaped c.start.ensures c.all.ensures c.finish.ensures
+pub returns-in-Ok : goal.returns-in-Ok
+returns-in-Ok c = rw c.still.ensures (comes_loads (Ok tt) c.in-Ok.ensures (λ _. refl) (λ n. absurd (n refl)))
+
+pub returns-in-Err : goal.returns-in-Err
+returns-in-Err c = rw c.still-in-Err.ensures (comes_loads _ c.in-Err.ensures (λ z. absurd (refusal_positive c.in-Err.refused.refusal z)) (λ _. refl))
