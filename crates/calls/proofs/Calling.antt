@@ -2,7 +2,7 @@
 use mathlib.Core.Path.{◌≡◌}
 use Rattle.dispatcher.specs.Slots.{Shaped}
 use Rattle.dispatcher.specs.Sound.{Sound}
-use Rattle.dispatcher.specs.declared.Answer.TheVariants.{Done}
+use Rattle.std.specs.Prelude.{Ok}
 use Rattle.dispatcher.specs.declared.Dispatcher.{Dispatcher}
 use Rattle.dispatcher.specs.declared.Outcome.{Outcome}
 use Rattle.dispatcher.proofs.Unsound.{sound_answered}
@@ -35,15 +35,15 @@ does_keeps (wake slot) r f L S h = wake_keeps L S h
 does_keeps (block slot) r f L S h = block_keeps L S h
 
 abbrev pub model_of : Call → Dispatcher → Outcome
-model_of (create slot priority mask) d = create_of Done d slot priority mask
-model_of (delete slot) d = delete_of Done d slot
-model_of (load list) d = load_of Done d list
-model_of (wake slot) d = wake_of Done d slot
-model_of (block slot) d = block_of Done d slot
+model_of (create slot priority mask) d = create_of (Ok tt) d slot priority mask
+model_of (delete slot) d = delete_of (Ok tt) d slot
+model_of (load list) d = load_of (Ok tt) d list
+model_of (wake slot) d = wake_of (Ok tt) d slot
+model_of (block slot) d = block_of (Ok tt) d slot
 
 pub model_does : (c : Call) {d : Dispatcher} → Shaped d → Sound d → Does c d (model_of c d)
-model_does (create slot priority mask) L S = create_creates Done slot priority mask (sound_answered S)
-model_does (delete slot) L S = delete_deletes Done slot L (sound_answered S)
-model_does (load list) L S = load_loads Done list L (sound_answered S)
-model_does (wake slot) L S = wake_wakes Done slot L (sound_answered S)
-model_does (block slot) L S = block_blocks Done slot L (sound_answered S)
+model_does (create slot priority mask) L S = create_creates (Ok tt) slot priority mask (sound_answered S)
+model_does (delete slot) L S = delete_deletes (Ok tt) slot L (sound_answered S)
+model_does (load list) L S = load_loads (Ok tt) list L (sound_answered S)
+model_does (wake slot) L S = wake_wakes (Ok tt) slot L (sound_answered S)
+model_does (block slot) L S = block_blocks (Ok tt) slot L (sound_answered S)
