@@ -1,14 +1,11 @@
 -- What the soundness check, the file reader and the line writer say, in plain numbers.
-use Rattle.std.specs.Prelude.{◌≡◌, true, false}
-use Rattle.dispatcher.specs.Answers.{number_of, place_of}
-use Rattle.dispatcher.specs.declared.Answer.{Answer}
-use Rattle.files.specs.declared.Reading.{Reading}
-use Rattle.files.specs.declared.Reading.TheVariants.{Layout, Refused}
-use Rattle.files.specs.declared.FileRecord.{FileRecord}
-use Rattle.files.specs.declared.FileRecord.TheVariants.{Record, NoRecord}
+use Rattle.std.specs.Prelude.{ℕ, ◌≡◌, true, false, Option, Some, None, Result, Ok, Err}
+use Rattle.dispatcher.specs.Answers.{Answer, refusal_number, refusal_place, number_of, place_of}
+use Rattle.dispatcher.specs.declared.Refusal.{Refusal}
+use Rattle.dispatcher.specs.declared.TaskRecord.{TaskRecord}
+use Rattle.files.specs.declared.Layout.{Layout}
+use Rattle.files.specs.declared.Fault.{Fault}
 use Rattle.files.specs.declared.FileEvent.{FileEvent}
-use Rattle.files.specs.declared.FileEvent.TheVariants.{Event, NoEvent}
-use Rattle.lines.specs.declared.Written.{Written}
 use Rattle.makxirund.specs.declared.PlainAnswer.{PlainAnswer}
 use Rattle.makxirund.specs.declared.PlainLayout.{PlainLayout}
 use Rattle.makxirund.specs.declared.PlainRecord.{PlainRecord}
@@ -18,21 +15,37 @@ use Rattle.makxirund.specs.declared.PlainWritten.{PlainWritten}
 abbrev pub plain_answer : Answer → PlainAnswer
 plain_answer a = record { number = number_of a; place = place_of a }
 
+abbrev pub plain_refusal : Refusal → PlainAnswer
+plain_refusal r = record { number = refusal_number r; place = refusal_place r }
+
 -- a refused file has no layout to tell, and a layout no offset
-abbrev pub plain_reading : Reading → PlainLayout
-plain_reading (Layout cores records events) = record { number = 0; cores = cores; records = records; events = events; offset = 0 }
-plain_reading (Refused answer offset) = record { number = number_of answer; cores = 0; records = 0; events = 0; offset = offset }
+abbrev pub plain_reading : Result Layout Fault → PlainLayout
+plain_reading (Ok l) = record { number = 0; cores = l.cores; records = l.records; events = l.events; offset = 0 }
+plain_reading (Err f) = record { number = refusal_number f.refusal; cores = 0; records = 0; events = 0; offset = f.offset }
 
-abbrev pub plain_record : FileRecord → PlainRecord
-plain_record (Record slot priority mask) = record { found = true; slot = slot; priority = priority; mask = mask }
-plain_record NoRecord = record { found = false; slot = 0; priority = 0; mask = 0 }
+abbrev pub plain_record : Option TaskRecord → PlainRecord
+plain_record (Some t) = record { found = true; slot = t.slot; priority = t.priority; mask = t.mask }
+plain_record None = record { found = false; slot = 0; priority = 0; mask = 0 }
 
-abbrev pub plain_event : FileEvent → PlainEvent
-plain_event (Event kind slot) = record { found = true; kind = kind; slot = slot }
-plain_event NoEvent = record { found = false; kind = 0; slot = 0 }
+abbrev pub plain_event : Option FileEvent → PlainEvent
+plain_event (Some e) = record { found = true; kind = e.kind; slot = e.slot }
+plain_event None = record { found = false; kind = 0; slot = 0 }
 
-abbrev pub plain_written_of : Written → PlainWritten
-plain_written_of w = record { number = number_of w.answer; place = place_of w.answer; length = w.length }
+-- the length of what was written; where it was refused, the refusal in plain numbers, and length 0
+abbrev pub written_length : ℕ → PlainWritten
+written_length n = record { number = 0; place = 0; length = n }
+
+abbrev pub written_nothing : PlainAnswer → PlainWritten
+written_nothing a = record { number = a.number; place = a.place; length = 0 }
+
+-- the same where a conversion of the refusal is given by the plain answers that it may make
+abbrev pub WrittenBy : {R : Type 0} → (R → PlainAnswer → Type 0) → Result ℕ R → PlainWritten → Type 0
+WrittenBy Gives (Ok n) w = w ≡ written_length n
+WrittenBy Gives (Err r) w = (a : PlainAnswer) × Gives r a × (w ≡ written_nothing a)
+
+abbrev pub plain_written_of : Result ℕ Refusal → PlainWritten
+plain_written_of (Ok n) = written_length n
+plain_written_of (Err r) = written_nothing (plain_refusal r)
 
 -- r is in plain numbers what a promise allows
 pub record InPlain {A B : Type 0} (Promise : A → Type 0) (plain : A → B) (r : B) : Type 0 where
