@@ -1,10 +1,13 @@
 -- Whether a slot's task runs, by the table of the cores on which slots sit; of any dispatcher, sound or not. And that a comparison has one result.
-use Prim.Native.Nat.{ℕ, ◌+◌, ◌≤◌, ◌<◌}
-use mathlib.Core.Path.{◌≡◌, refl, sym, ap, ap₂, ◌∙◌}
+use Prim.Native.Nat.{ℕ, ◌≤◌, ◌<◌, min}
+use mathlib.Core.Path.{◌≡◌, refl, sym, ap, ◌∙◌}
 use mathlib.Core.Logic.{◌≢◌, inl, inr}
 use mathlib.Core.Bool.{Bool, false, not}
 use mathlib.Core.List.{List}
-use native.Mathlib.Decide.{ℕ_discrete, dec_lt}
+use Rattle.std.specs.Prelude.{Option, Some, None, MatchOption, Result, Ok, Err, IfOk}
+use Rattle.std.specs.List.{zip, AllWithin, HoldsAt}
+use Rattle.std.proofs.lemmas.Slice.Zip.{get_or-zip, length-zip}
+use native.Mathlib.Decide.{dec_lt}
 use native.Mathlib.Omega.{arith}
 use lib.Dec.{eqb}
 use lib.ListN.{length, get_or, take, length-take}
@@ -16,14 +19,14 @@ use Rattle.laws.proofs.Lists.{get_d_beyond}
 use Rattle.laws.proofs.Lowering.{lowest_same}
 use Rattle.dispatcher.specs.Limits.{core_limit, slot_limit, none}
 use Rattle.dispatcher.specs.Slots.{Shaped}
-use Rattle.dispatcher.specs.Answers.{number_of}
-use Rattle.dispatcher.specs.declared.Answer.{Answer}
+use Rattle.dispatcher.specs.declared.Refusal.{Refusal}
 use Rattle.dispatcher.specs.declared.Dispatcher.{Dispatcher}
 use Rattle.order.specs.Places.{FirstPlace, FirstPlaces, places_of}
 use Rattle.shifting.specs.Board.{Runs}
-use Rattle.engine.specs.declared.Compared.{Compared}
+use Rattle.engine.specs.declared.Kept.{Kept}
+use Rattle.engine.specs.Keep.{answer_in}
 use Rattle.engine.specs.Difference.{HasCore, Alike, Difference, Compares}
-use Rattle.engine.proofs.Keeping.{keep_same}
+use Rattle.engine.proofs.Keeping.{tasks_in, keep_same}
 
 -- n is the core count, but no more than there can be
 pub record Counted (d : Dispatcher) (n : ℕ) : Type 0 where
@@ -31,11 +34,8 @@ pub record Counted (d : Dispatcher) (n : ℕ) : Type 0 where
   pub within : n ≤ d.cores
   pub all : (c : ℕ) → c < d.cores → c < core_limit → c < n
 
-pub counted_all : {d : Dispatcher} → d.cores ≤ core_limit → Counted d d.cores
-counted_all l = record { few = l; within = omega arith; all = λ c b m. b }
-
-pub counted_most : {d : Dispatcher} → core_limit < d.cores → Counted d core_limit
-counted_most l = record { few = omega arith; within = omega arith; all = λ c b m. m }
+pub counted : {d : Dispatcher} {n : ℕ} → n ≡ min d.cores core_limit → Counted d n
+counted e = record { few = omega arith; within = omega arith; all = λ c b m. omega arith }
 
 runs_told : {d : Dispatcher} {n : ℕ} {cores : List ℕ} → length d.seats ≡ core_limit → Counted d n → FirstPlaces (take n d.seats) cores → {t : ℕ} → t < slot_limit
     → Decides (Runs d t) (not (eqb (get_or cores t 0) none))
@@ -63,49 +63,55 @@ runs_told {d} {n} {cores} long N C {t} small = decides_by (λ q. sits q (C.each 
 
 -- ---- slot by slot
 
-pub record AlikeTo (tasks : List Bool) (cores : List ℕ) (slot : ℕ) : Type 0 where
-  pub upto : slot ≤ slot_limit
-  pub each : (t : ℕ) → t < slot → HasCore (get_or tasks t false) (get_or cores t 0)
-
-pub alike_more : {tasks : List Bool} {cores : List ℕ} {slot : ℕ} → AlikeTo tasks cores slot → slot < slot_limit → HasCore (get_or tasks slot false) (get_or cores slot 0) → AlikeTo tasks cores (slot + 1)
-alike_more {tasks} {cores} {slot} A l h = record { upto = omega arith; each = λ t b. go t b (ℕ_discrete t slot) }
-  where
-    go : (t : ℕ) → t < slot + 1 → Dec (t ≡ slot) → HasCore (get_or tasks t false) (get_or cores t 0)
-    go t b (yes q) = rw q h
-    go t b (no q) = A.each t (omega arith)
-
-module _ {d : Dispatcher} {n : ℕ} {cores : List ℕ} (long : length d.seats ≡ core_limit) (N : Counted d n) (C : FirstPlaces (take n d.seats) cores) (tasks : List Bool) where
+module _ {d : Dispatcher} {n : ℕ} {cores : List ℕ} (long : length d.seats ≡ core_limit) (N : Counted d n) (C : FirstPlaces (take n d.seats) cores) (tasks : List Bool) (marks : length tasks ≡ slot_limit) where
   core_alike : {t : ℕ} → t < slot_limit → HasCore (get_or tasks t false) (get_or cores t 0) → Alike d tasks t
   core_alike {t} l h = let D = runs_told long N C l in (λ m. D.yes (not_false (eqb_false (h.0 m))), λ r. h.1 (eqb_ne (not_true (decides_yes D r))))
 
   alike_core : {t : ℕ} → t < slot_limit → Alike d tasks t → HasCore (get_or tasks t false) (get_or cores t 0)
   alike_core {t} l a = let D = runs_told long N C l in (λ m. eqb_ne (not_true (decides_yes D (a.0 m))), λ q. a.1 (D.yes (not_false (eqb_false q))))
 
-  pub lowest_difference : {slot : ℕ} → AlikeTo tasks cores slot → slot < slot_limit → (HasCore (get_or tasks slot false) (get_or cores slot 0) → ⊥) → Difference d tasks slot
-  lowest_difference A l h = inl (record { below = l; fails = λ a. h (alike_core l a); lower = λ t b. core_alike (omega arith) (A.each t b) })
+  -- a mark beside its core
+  pair : {t : ℕ} → t < slot_limit → get_or (zip tasks cores) t (false, 0) ≡ (get_or tasks t false, get_or cores t 0)
+  pair {t} l = get_or-zip tasks cores t (false, 0) (rw marks l) (rw C.long l)
 
-  pub no_difference : {slot : ℕ} → AlikeTo tasks cores slot → slot_limit ≤ slot → Difference d tasks none
-  no_difference A l = inr (record { same = λ t b. core_alike b (A.each t (omega arith)); is = refl })
+  paired : length (zip tasks cores) ≡ slot_limit
+  paired = omega (arith, length-zip tasks cores, marks, C.long)
+
+  like : {t high : ℕ} → high ≤ slot_limit → AllWithin (λ (p : Bool × ℕ). HasCore p.0 p.1) (zip tasks cores) 0 high → t < high → Alike d tasks t
+  like {t} {high} m A l = let below : t < slot_limit = omega arith in core_alike below (rw (pair below) at (A t (false, 0) (omega arith) l))
+
+  -- the first mark that is not like its core is that of the lowest slot that differs
+  pub difference_told : (slot : Option ℕ)
+      → MatchOption slot (AllWithin (λ (p : Bool × ℕ). HasCore p.0 p.1) (zip tasks cores) 0 (length (zip tasks cores)))
+      (λ t. (t < length (zip tasks cores)) × HoldsAt (λ (p : Bool × ℕ). HasCore p.0 p.1 → ⊥) (zip tasks cores) t × AllWithin (λ (p : Bool × ℕ). HasCore p.0 p.1) (zip tasks cores) 0 t)
+      → Difference d tasks slot
+  difference_told None h = λ t l. like (omega (arith, paired)) h (rw paired l)
+  difference_told (Some t) h =
+      let below : t < slot_limit = omega (arith, paired, h.0) in
+      record { below = below; fails = λ a. (rw (pair below) at (h.1 (false, 0))) (alike_core below a); lower = λ u l. like (omega arith) h.2 l }
 
 -- no two slots are the difference
-difference_same : (d : Dispatcher) (tasks : List Bool) {a b : ℕ} → Difference d tasks a → Difference d tasks b → a ≡ b
-difference_same d tasks (inl A) (inl B) = lowest_same A B
-difference_same d tasks (inl A) (inr B) = absurd (A.fails (B.same _ A.below))
-difference_same d tasks (inr A) (inl B) = absurd (B.fails (A.same _ B.below))
-difference_same d tasks (inr A) (inr B) = A.is ∙ sym B.is
+difference_same : (d : Dispatcher) (tasks : List Bool) (a b : Option ℕ) → Difference d tasks a → Difference d tasks b → a ≡ b
+difference_same d tasks (Some a) (Some b) A B = ap Some (lowest_same A B)
+difference_same d tasks (Some a) None A B = absurd (A.fails (B a A.below))
+difference_same d tasks None (Some b) A B = absurd (B.fails (A b B.below))
+difference_same d tasks None None A B = refl
 
 -- ---- engine and dispatcher
 
+err_is : (r : Result (Option ℕ) Refusal) {e : Refusal} → answer_in r ≡ Err e → r ≡ Err e
+err_is (Ok slot) q = cc
+err_is (Err refusal) q = cc
+
 -- two results that the promise allows are the same
-pub compare_same : {d : Dispatcher} {r q : Compared} → Shaped d → Compares d r → Compares d q → r ≡ q
-compare_same {d} {r} {q} L A B = ap₂ (λ (a : Answer) (s : ℕ). record { answer = a; slot = s }) same_answer (go (ℕ_discrete (number_of r.answer) 0))
+pub compare_same : {d : Dispatcher} {r q : Result (Option ℕ) Refusal} → Shaped d → Compares d r → Compares d q → r ≡ q
+compare_same {d} {r} {q} L A B = go A.kept B.kept (keep_same L A.keeps B.keeps) r q A.answer B.answer A.done B.done
   where
-    both : (A.kept.answer ≡ B.kept.answer) × (A.kept.tasks ≡ B.kept.tasks)
-    both = keep_same L A.keeps B.keeps
-
-    same_answer : r.answer ≡ q.answer
-    same_answer = A.answer ∙ both.0 ∙ sym B.answer
-
-    go : Dec (number_of r.answer ≡ 0) → r.slot ≡ q.slot
-    go (yes z) = difference_same d B.kept.tasks (rw both.1 at (A.done z)) (B.done (ap number_of (sym same_answer) ∙ z))
-    go (no z) = A.refused z ∙ sym (B.refused (λ y. z (ap number_of same_answer ∙ y)))
+    go : (k h : Result Kept Refusal) → tasks_in k ≡ tasks_in h → (r q : Result (Option ℕ) Refusal) → answer_in r ≡ answer_in k → answer_in q ≡ answer_in h → IfOk k (λ y. IfOk r (Difference d y.tasks))
+        → IfOk h (λ y. IfOk q (Difference d y.tasks)) → r ≡ q
+    go (Ok k) (Ok h) e (Ok a) (Ok b) f g A B = let same : k.tasks ≡ h.tasks = cc in ap Ok (difference_same d h.tasks a b (rw same at A) B)
+    go (Ok k) (Ok h) e (Ok a) (Err b) f g A B = cc
+    go (Ok k) (Ok h) e (Err a) q f g A B = cc
+    go (Ok k) (Err h) e r q f g A B = cc
+    go (Err k) (Ok h) e r q f g A B = cc
+    go (Err k) (Err h) e r q f g A B = let same : k ≡ h = cc in err_is r f ∙ ap Err same ∙ sym (err_is q g)

@@ -1,3 +1,4 @@
+pub mod Seats
 pub mod Search
 pub mod Turns
 pub mod Keep

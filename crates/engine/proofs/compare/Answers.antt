@@ -1,23 +1,13 @@
 -- `compare` meets its promise.
-use mathlib.Core.Path.{refl, sym, ◌∙◌}
+use mathlib.Core.Path.{refl}
+use Rattle.std.specs.Prelude.{Ok, Err}
+use Rattle.std.proofs.lemmas.Result.{err_from_is_err_and}
 use Rattle.engine.proofs.compare.Goals as goal
 
-pub returns-then-number-eq0 : goal.returns-then-number-eq0
-returns-then-number-eq0 c =
-    let b = c in
-    record {
-      kept = b.keep-kept.result;
-      keeps = b.keep-kept.ensures;
-      answer = refl;
-      done = λ _. c.difference-slot.ensures;
-      refused = λ z. absurd (z (sym b.number.ensures ∙ c.if-number-eq0.true));
-    }
+pub returns-in_err-kept : goal.returns-in_err-kept
+returns-in_err-kept c =
+    let exit = err_from_is_err_and c.from_residual.result c.from_residual.ensures.1 in
+    rw (exit.1, exit.2) (record { kept = Err _; keeps = c.in_err-kept.ensures; answer = refl; done = tt })
 
-pub returns-else-number-eq0 : goal.returns-else-number-eq0
-returns-else-number-eq0 c = record {
-  kept = c.keep-kept.result;
-  keeps = c.keep-kept.ensures;
-  answer = refl;
-  done = λ z. absurd (c.if-number-eq0.false (c.number.ensures ∙ z));
-  refused = λ _. refl;
-}
+pub returns : goal.returns
+returns c = record { kept = Ok c.in_ok-kept.kept; keeps = c.in_ok-kept.ensures; answer = refl; done = c.difference.ensures }

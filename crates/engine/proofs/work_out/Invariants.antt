@@ -2,8 +2,8 @@
 use Rattle.engine.proofs.Turning.{Going, how_many}
 use Rattle.engine.proofs.work_out.Given as goal
 
-abbrev pub invariant-loop-d : goal.invariant-loop-d
-invariant-loop-d l = Going l.d l.left l.kept
+abbrev pub invariant-loop-place : goal.invariant-loop-place
+invariant-loop-place l = Going l.d l.left l.kept
 
-abbrev pub decreases-loop-d : goal.decreases-loop-d
-decreases-loop-d l = how_many l.left
+abbrev pub decreases-loop-place : goal.decreases-loop-place
+decreases-loop-place l = how_many l.left

@@ -1,10 +1,10 @@
 -- `seat` and `free` call each other: each asks a core that has not been asked, so the cores left to ask are fewer at each call.
 use Prim.Native.Nat.{suc}
 use Rattle.engine.specs.Search.{unasked}
-use Rattle.engine.proofs.+free_seat.Given as goal
+use Rattle.engine.proofs.places.Board.+free_seat.Given as goal
 
 abbrev pub decreases-free : goal.decreases-free
-decreases-free l = unasked l.n l.s
+decreases-free l = unasked l.self.now.cores l.s.now
 
 abbrev pub decreases-seat : goal.decreases-seat
-decreases-seat l = suc (unasked l.n l.s)
+decreases-seat l = suc (unasked l.self.now.cores l.s.now)
