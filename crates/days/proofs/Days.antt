@@ -64,7 +64,7 @@ no_call_there b k l (delete _) a = omega (arith, a.1.0.counted)
 no_call_there b k l (load _) a = a
 
 -- a priority that is read is a byte
-call_fits : (b : List ℕ) (k : ℕ) (c : Call) → Bytes b → CallAt b k c → Fits c
+pub call_fits : (b : List ℕ) (k : ℕ) (c : Call) → Bytes b → CallAt b k c → Fits c
 call_fits b k (create _ _ _) bytes a = omega (arith, a.2, bytes (record_place b k + 1))
 call_fits b k (wake _) bytes a = tt
 call_fits b k (block _) bytes a = tt

@@ -3,3 +3,4 @@ pub mod Stepping
 pub mod Printing
 pub mod Same
 pub mod Days
+pub mod Telling

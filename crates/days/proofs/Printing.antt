@@ -1,19 +1,21 @@
 -- The lines so far, in a loop that makes one call after the other: they grow by a line at their end.
 use Prim.Native.Nat.{ℕ, zero, suc, ◌+◌, ◌-◌, ◌≤◌}
 use mathlib.Core.Path.{◌≡◌, refl, sym, ap, subst, ◌∙◌}
-use mathlib.Core.Logic.{◌≢◌}
 use mathlib.Core.List.{List, [], ◌++◌, append_assoc, append-nil}
 use native.Mathlib.Omega.{arith}
 use native.Mathlib.Nat.{add-zero, zero-add, suc-add}
 use native.Mathlib.Numerals.{add-one}
 use lib.ListN.{length, take, drop, length-append, length-drop}
+use Rattle.std.specs.Prelude.{Option, Some, Result, Ok}
+use Rattle.dispatcher.specs.Answers.{Answer}
+use Rattle.dispatcher.specs.declared.Refusal.{Refusal}
 use lib.Seq.{take_at, drop_at, take_all, drop-length, drop-drop}
 use borrow.Rule.Slice.PartMut.{put_mid}
 use Rattle.dispatcher.specs.declared.Dispatcher.{Dispatcher}
 use Rattle.days.specs.declared.Stepped.{Stepped}
-use Rattle.days.specs.Step.{Steps}
-use Rattle.days.specs.Replay.{Prints, Stops}
-use Rattle.days.proofs.Stepping.{Accepted, accepted, nothing_kept}
+use Rattle.days.specs.Step.{line_of, Steps}
+use Rattle.days.specs.Replay.{Prints, stop_of, Stops, Replays}
+use Rattle.days.proofs.Stepping.{Accepted, line_some, accepted, nothing_kept}
 
 pub prints_join : (b : List ℕ) (k : ℕ) (d : Dispatcher) (n m : ℕ) (e f : Dispatcher) (t u : List ℕ) → Prints b k d n e t → Prints b (k + n) e m f u → Prints b k d (n + m) f (t ++ u)
 prints_join b k d zero m e f t u (p, q) y = rw (zero-add m, q) (rw (add-zero k, p) at y)
@@ -64,29 +66,27 @@ module _ {b : List ℕ} {k : ℕ} {d e : Dispatcher} {before after : List ℕ} {
       whole : size + (length after - size) ≡ length after
       whole = omega (arith, within)
 
-  module _ (part : List ℕ) (r : Stepped) (lent : Steps b next e (take (length after - size) (drop size after)) part r) where
-    steps : Steps b next e (drop (length s.text) before) part r
-    steps = subst (λ (l : List ℕ). Steps b next e l part r) room lent
+  steps : {part : List ℕ} {r : Result (Option Stepped) Refusal} → Steps b next e (take (length after - size) (drop size after)) part r → Steps b next e (drop (length s.text) before) part r
+  steps {part} {r} lent = subst (λ (l : List ℕ). Steps b next e l part r) room lent
 
+  module _ (part : List ℕ) (a : Answer) (lent : Steps b next e (take (length after - size) (drop size after)) part (stop_of a)) where
     -- a step that writes nothing leaves the buffer
-    pub stays : r.written.length ≡ 0 → put_mid size (length after - size) after part ≡ s.text ++ drop (length s.text) before
-    stays none = back part ∙ ap (λ (l : List ℕ). s.text ++ l) (nothing_kept steps none)
+    pub stays : put_mid size (length after - size) after part ≡ s.text ++ drop (length s.text) before
+    stays = back part ∙ ap (λ (l : List ℕ). s.text ++ l) (nothing_kept a (steps lent))
 
-    pub stops : r.written.length ≡ 0 → Stops b (k + s.made) e (drop (length s.text) before) r.written.answer
-    stops none = record {
-      step = r;
-      after = part;
-      steps = subst (λ (n : ℕ). Steps b n e (drop (length s.text) before) part r) s.next_is steps;
-      nothing = none;
-      answer = refl;
-    }
+    pub stops : Stops b (k + s.made) e (drop (length s.text) before) a
+    stops = record { after = part; steps = subst (λ (n : ℕ). Steps b n e (drop (length s.text) before) part (stop_of a)) s.next_is (steps lent) }
 
+    pub ends : Replays b k d before (put_mid size (length after - size) after part) (record { answer = a; next = next; length = size; dispatcher = e })
+    ends = record { made = s.made; text = s.text; prints = s.prints; next = s.next_is; length_told = s.size_is; fits = s.fits; written = stays; stops = stops }
+
+  module _ (part : List ℕ) (r : Stepped) (lent : Steps b next e (take (length after - size) (drop size after)) part (Ok (Some r))) where
     -- any other adds a line
-    pub added : r.written.length ≢ 0 → Accepted b next e (drop (length s.text) before) part r
-    added some = accepted steps some
+    pub added : Accepted b next e (drop (length s.text) before) part r
+    added = accepted (steps lent)
 
-    pub more : r.written.length ≢ 0 → SoFar b k d before (put_mid size (length after - size) after part) (next + 1) (size + r.written.length) r.dispatcher
-    more some = record {
+    pub more : SoFar b k d before (put_mid size (length after - size) after part) (next + 1) (size + r.length) r.dispatcher
+    more = record {
       made = suc s.made;
       text = s.text ++ a.line;
       prints = subst (λ (x : Dispatcher). Prints b k d (suc s.made) x (s.text ++ a.line)) (sym a.next) all;
@@ -97,7 +97,7 @@ module _ {b : List ℕ} {k : ℕ} {d e : Dispatcher} {before after : List ℕ} {
     }
       where
         a : Accepted b next e (drop (length s.text) before) part r
-        a = added some
+        a = added
 
         last : Prints b next e 1 a.outcome.dispatcher a.line
         last = (a.outcome, a.line, [], a.line_at, sym (append-nil a.line), (refl, refl))
@@ -112,3 +112,8 @@ module _ {b : List ℕ} {k : ℕ} {d e : Dispatcher} {before after : List ℕ} {
 
         after_both : drop (length a.line) (drop (length s.text) before) ≡ drop (length (s.text ++ a.line)) before
         after_both = drop-drop (length a.line) (length s.text) before ∙ ap (λ (n : ℕ). drop n before) (sym (length-append s.text a.line))
+
+    -- a line takes room
+    pub longer : (size + r.length ≤ length before) × (1 ≤ r.length)
+    longer = let some = line_some (line_of next added.line_at.call added.outcome) (take added.outcome.dispatcher.cores added.outcome.dispatcher.seats) in
+        (omega (arith, more.fits, more.size_is), omega (arith, added.told, rw (← added.line_at.text) at some))

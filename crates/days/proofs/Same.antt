@@ -1,92 +1,85 @@
 -- Any two results that a promise allows are the same: a place of the file has one call, a call one result, and a result one line.
 use Prim.Native.Nat.{ℕ, zero, suc, ◌+◌, ◌≤◌, ◌<◌}
 use mathlib.Core.Path.{◌≡◌, refl, sym, ap, ◌∙◌}
-use mathlib.Core.Logic.{◌⊎◌, inl, inr}
+use mathlib.Core.Logic.{inl, inr}
 use mathlib.Core.List.{List, ◌++◌}
-use native.Mathlib.Decide.{ℕ_discrete, dec_lt}
+use native.Mathlib.Decide.{dec_lt}
 use native.Mathlib.Nat.{add-zero}
 use native.Mathlib.Omega.{arith}
-use lib.ListN.{length, take, drop, length-append, length-drop}
+use lib.ListN.{length, drop, length-append, length-drop}
+use Rattle.std.specs.Prelude.{Option, Some, None, Result, Ok, Err}
 use Rattle.laws.specs.Answering.{Applies}
-use Rattle.dispatcher.specs.Answers.{number_of}
-use Rattle.dispatcher.specs.declared.Answer.{Answer}
+use Rattle.dispatcher.specs.Answers.{Answer}
+use Rattle.dispatcher.specs.declared.Refusal.{Refusal}
 use Rattle.dispatcher.specs.declared.Dispatcher.{Dispatcher}
 use Rattle.dispatcher.specs.declared.Outcome.{Outcome}
-use Rattle.dispatcher.proofs.Stable.{by_dec}
 use Rattle.dispatcher.proofs.Unsound.{sound_own}
-use Rattle.dispatcher.proofs.Same.{done_is}
+use Rattle.dispatcher.proofs.Same.{refusal_positive}
 use Rattle.lines.specs.Line.{IsLineKind, text_refusals, line_refusals}
 use Rattle.lines.specs.declared.Line.{Line}
 use Rattle.lines.proofs.Same.{writes_same}
 use Rattle.calls.specs.Call.{Call, create, delete, load, wake, block, Does}
 use Rattle.calls.proofs.Calling.{does_same}
 use Rattle.days.specs.declared.FileCall.{FileCall}
-use Rattle.days.specs.declared.FileCall.TheVariants.{Create, Wake, Block, Delete, NoCall}
+use Rattle.days.specs.declared.FileCall.TheVariants.{Create, Wake, Block, Delete}
 use Rattle.days.specs.declared.Stepped.{Stepped}
 use Rattle.days.specs.declared.Replayed.{Replayed}
-use Rattle.days.specs.Calls.{CallAt, HasNoCall, ReadsCall}
+use Rattle.days.specs.Calls.{CallAt, call_of, ReadsCall}
 use Rattle.days.specs.Step.{kind_of, line_of, Told, Steps}
-use Rattle.days.specs.Replay.{LineAt, Prints, Stops, Replays}
+use Rattle.days.specs.Replay.{LineAt, Prints, stop_of, Stops, Replays}
 use Rattle.days.proofs.Calling.{call_same}
-use Rattle.days.proofs.Stepping.{line_some}
 
 -- ---- the call that is read
 
-abbrev file_call : Call → FileCall
-file_call (create slot priority mask) = Create slot priority mask
-file_call (wake slot) = Wake slot
-file_call (block slot) = Block slot
-file_call (delete slot) = Delete slot
-file_call (load list) = NoCall
+-- what is asked for tells the call; no file asks for a load
+asked : Call → FileCall
+asked (create slot priority mask) = Create (record { slot = slot; priority = priority; mask = mask })
+asked (wake slot) = Wake slot
+asked (block slot) = Block slot
+asked (delete slot) = Delete slot
+asked (load list) = Wake 0
 
-abbrev Found : List ℕ → ℕ → FileCall → Type 0
-Found b k f = ((c : Call) × CallAt b k c × (f ≡ file_call c)) ⊎ (HasNoCall b k × (f ≡ NoCall))
+asked_back : (f : FileCall) → asked (call_of f) ≡ f
+unfolding asked
+asked_back (Create r) = refl
+asked_back (Wake slot) = refl
+asked_back (Block slot) = refl
+asked_back (Delete slot) = refl
 
-found : (b : List ℕ) (k : ℕ) (f : FileCall) → ReadsCall b k f → Found b k f
-found b k (Create slot priority mask) h = inl (create slot priority mask, h, refl)
-found b k (Wake slot) h = inl (wake slot, h, refl)
-found b k (Block slot) h = inl (block slot, h, refl)
-found b k (Delete slot) h = inl (delete slot, h, refl)
-found b k NoCall h = inr (h, refl)
-
-pub reads_call_same : (b : List ℕ) (k : ℕ) (f g : FileCall) → ReadsCall b k f → ReadsCall b k g → f ≡ g
-reads_call_same b k f g x y = go (found b k f x) (found b k g y)
-  where
-    go : Found b k f → Found b k g → f ≡ g
-    go (inl (c, at, p)) (inl (e, bt, q)) = p ∙ ap file_call (call_same b k c e at bt) ∙ sym q
-    go (inl (c, at, p)) (inr (none, q)) = absurd (none c at)
-    go (inr (none, p)) (inl (e, bt, q)) = absurd (none e bt)
-    go (inr (none, p)) (inr (none', q)) = p ∙ sym q
+pub reads_call_same : (b : List ℕ) (k : ℕ) (f g : Option FileCall) → ReadsCall b k f → ReadsCall b k g → f ≡ g
+reads_call_same b k (Some f) (Some g) x y = ap Some (sym (asked_back f) ∙ ap asked (call_same b k (call_of f) (call_of g) x y) ∙ asked_back g)
+reads_call_same b k (Some f) None x y = absurd (y (call_of f) x)
+reads_call_same b k None (Some g) x y = absurd (x (call_of g) y)
+reads_call_same b k None None x y = refl
 
 -- ---- a step
 
 made_same : (b : List ℕ) (k : ℕ) (d : Dispatcher) (c e : Call) {o p : Outcome} → CallAt b k c → CallAt b k e → Does c d o → Does e d p → (c ≡ e) × (o ≡ p)
 made_same b k d c e at bt x y = let same = call_same b k c e at bt in (same, does_same c d x (rw same y))
 
-stepped_same : {r q : Stepped} → r.written ≡ q.written → r.dispatcher ≡ q.dispatcher → r ≡ q
-stepped_same p e = λ i. record { written = p i; dispatcher = e i }
+told_same : (line : Line) (made : Outcome) (before : List ℕ) {after after' : List ℕ} (r q : Result (Option Stepped) Refusal)
+    → Told line made before after r → Told line made before after' q → (r ≡ q) × (after ≡ after')
+told_same line made before (Ok (Some s)) (Ok (Some u)) x y =
+    let same = writes_same line made.dispatcher {r = Ok s.length} {q = Ok u.length} x.0 y.0 in
+    let size : s.length ≡ u.length = cc in
+    (λ i. Ok (Some (record { length = size i; dispatcher = (x.1 ∙ sym y.1) i })), same.1)
+told_same line made before (Ok (Some s)) (Err e) x y = cc (writes_same line made.dispatcher {r = Ok s.length} {q = Err e} x.0 y).0
+told_same line made before (Err e) (Ok (Some u)) x y = cc (writes_same line made.dispatcher {r = Err e} {q = Ok u.length} x y.0).0
+told_same line made before (Err e) (Err f) x y =
+    let same = writes_same line made.dispatcher {r = Err e} {q = Err f} x y in
+    (cc same.0, same.1)
+told_same line made before (Ok None) q x y = absurd x
+told_same line made before (Ok (Some s)) (Ok None) x y = absurd y
+told_same line made before (Err e) (Ok None) x y = absurd y
 
-told_same : {d : Dispatcher} {line : Line} {made : Outcome} {before after after' : List ℕ} {r q : Stepped}
-    → Told d line made before after r → Told d line made before after' q → (r ≡ q) × (after ≡ after')
-told_same {line = line} {made = made} {after = after} {after' = after'} {r = r} {q = q} x y = (stepped_same same.0 (go (ℕ_discrete (number_of r.written.answer) 0)), same.1)
-  where
-    same : (r.written ≡ q.written) × (after ≡ after')
-    same = writes_same line made.dispatcher x.line_written y.line_written
-
-    go : Dec (number_of r.written.answer ≡ 0) → r.dispatcher ≡ q.dispatcher
-    go (yes z) = x.next z ∙ sym (y.next (rw (← same.0) z))
-    go (no n) = x.kept n ∙ sym (y.kept (rw (← same.0) n))
-
-pub steps_same : {b : List ℕ} {k : ℕ} {d : Dispatcher} {before after after' : List ℕ} {r q : Stepped}
+pub steps_same : {b : List ℕ} {k : ℕ} {d : Dispatcher} (before : List ℕ) {after after' : List ℕ} (r q : Result (Option Stepped) Refusal)
     → Steps b k d before after r → Steps b k d before after' q → (r ≡ q) × (after ≡ after')
-steps_same {b} {k} {d} (inl x) (inl y) =
+steps_same {b} {k} {d} before r q (inl x) (inl y) =
     let same = made_same b k d x.call y.call x.at y.at x.does y.does in
-    told_same x.told (rw (← same.0, ← same.1) at y.told)
-steps_same (inl x) (inr y) = absurd (y.none x.call x.at)
-steps_same (inr x) (inl y) = absurd (x.none y.call y.at)
-steps_same {r} {q} (inr x) (inr y) =
-    let answer = done_is {a = r.written.answer} x.answer ∙ sym (done_is {a = q.written.answer} y.answer) in
-    (stepped_same (λ i. record { answer = answer i; length = (x.nothing ∙ sym y.nothing) i }) (x.kept ∙ sym y.kept), x.bytes ∙ sym y.bytes)
+    told_same (line_of k x.call x.outcome) x.outcome before r q x.told (rw (← same.0, ← same.1) at y.told)
+steps_same before r q (inl x) (inr y) = absurd (y.none x.call x.at)
+steps_same before r q (inr x) (inl y) = absurd (x.none y.call y.at)
+steps_same before r q (inr x) (inr y) = (x.nothing ∙ sym y.nothing, x.bytes ∙ sym y.bytes)
 
 -- ---- the lines
 
@@ -129,7 +122,7 @@ next_line b k d (suc n) (suc m) f less (o, l, v, at, text, rest) (o', l', v', at
 
 -- ---- a run
 
-kind_small : (c : Call) → IsLineKind (kind_of c)
+pub kind_small : (c : Call) → IsLineKind (kind_of c)
 kind_small (create slot priority mask) = omega arith
 kind_small (wake slot) = omega arith
 kind_small (block slot) = omega arith
@@ -138,7 +131,7 @@ kind_small (load list) = omega arith
 
 -- a line that fits is written
 not_stopped : {b : List ℕ} {k : ℕ} {d : Dispatcher} {room l : List ℕ} {o : Outcome} {a : Answer} → LineAt b k d o l → length l ≤ length room → Stops b k d room a → ⊥
-not_stopped {b} {k} {d} {room} {o} x fits stops = go stops.steps
+not_stopped {b} {k} {d} {room} {o} {a = a} x fits stops = go a stops.steps
   where
     none_refuses : (c : Call) (p : Outcome) → c ≡ x.call → p ≡ o → (m : ℕ) → Applies (line_refusals (line_of k c p) p.dispatcher room) m → ⊥
     none_refuses c p same made m h = elim (sound_own p.dispatcher (rw made x.sound) (text_refusals (line_of k c p) p.dispatcher room) m h) [
@@ -147,13 +140,19 @@ not_stopped {b} {k} {d} {room} {o} x fits stops = go stops.steps
       | inr (inr a) ↦ a
     ]
 
-    go : Steps b k d room stops.after stops.step → ⊥
-    go (inl t) =
+    go : (a : Answer) → Steps b k d room stops.after (stop_of a) → ⊥
+    go (Ok done) (inl t) = t.told
+    go (Err r) (inl t) =
         let same = made_same b k d t.call x.call t.at x.at t.does x.does in
-        let done = by_dec (ℕ_discrete (number_of stops.step.written.answer) 0) (λ n. none_refuses t.call t.outcome same.0 same.1 _ (t.told.line_written.answer.answer.listed n)) in
-        let some = line_some (line_of k t.call t.outcome) (take t.outcome.dispatcher.cores t.outcome.dispatcher.seats) in
-        omega (arith, some, stops.nothing, t.told.line_written.length_told done)
-    go (inr e) = e.none x.call x.at
+        none_refuses t.call t.outcome same.0 same.1 _ (t.told.answer.answer.listed (refusal_positive r))
+    go (Ok done) (inr e) = e.none x.call x.at
+    go (Err r) (inr e) = e.none x.call x.at
+
+stop_same : (a c : Answer) → stop_of a ≡ stop_of c → a ≡ c
+stop_same (Ok done) (Ok done') e = refl
+stop_same (Ok done) (Err r) e = cc e
+stop_same (Err r) (Ok done) e = cc e
+stop_same (Err r) (Err q) e = cc e
 
 -- a run does not stop where another goes on
 not_fewer : {b : List ℕ} {k : ℕ} {d : Dispatcher} {before after after' : List ℕ} {r q : Replayed}
@@ -170,8 +169,7 @@ replays_same {b} {k} {d} {before} {after} {after'} {r} {q} x y = go (dec_lt x.ma
     equal many =
         let (kept, text) = prints_same b k d x.made x.prints (rw (← many) at y.prints) in
         let stops : Stops b (k + x.made) r.dispatcher (drop (length x.text) before) q.answer = rw (many, kept, text) y.stops in
-        let step = (steps_same x.stops.steps stops.steps).0 in
-        let answer : r.answer ≡ q.answer = sym (rw step at x.stops.answer) ∙ stops.answer in
+        let answer = stop_same r.answer q.answer (steps_same _ _ _ x.stops.steps stops.steps).0 in
         let next : r.next ≡ q.next = omega arith in
         let size : r.length ≡ q.length = cc in
         ((λ i. record { answer = answer i; next = next i; length = size i; dispatcher = kept i }), x.written ∙ rw text (sym y.written))

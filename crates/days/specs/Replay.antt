@@ -1,8 +1,9 @@
 -- A run of steps: the lines of the calls from k on, as many as a buffer holds.
-use Rattle.std.specs.Prelude.{ℕ, zero, suc, ◌+◌, ◌≤◌, ◌≡◌, List, [], ◌∷◌, ◌++◌, length, drop}
+use Rattle.std.specs.Prelude.{ℕ, zero, suc, ◌+◌, ◌≤◌, ◌≡◌, List, [], ◌∷◌, ◌++◌, length, drop, Option, None, Result, Ok, Err}
 use Rattle.dispatcher.specs.Sound.{Sound}
 use Rattle.dispatcher.specs.Fresh.{Freshly}
-use Rattle.dispatcher.specs.declared.Answer.{Answer}
+use Rattle.dispatcher.specs.Answers.{Answer}
+use Rattle.dispatcher.specs.declared.Refusal.{Refusal}
 use Rattle.dispatcher.specs.declared.Dispatcher.{Dispatcher}
 use Rattle.dispatcher.specs.declared.Outcome.{Outcome}
 use Rattle.files.specs.Layout.{core_count, record_count_of, event_count}
@@ -28,13 +29,15 @@ abbrev pub Prints : List ℕ → ℕ → Dispatcher → ℕ → Dispatcher → L
 Prints b k d zero e t = (e ≡ d) × (t ≡ [])
 Prints b k d (suc n) e t = (o : Outcome) × (l : List ℕ) × (u : List ℕ) × LineAt b k d o l × (t ≡ l ++ u) × Prints b (k + 1) o.dispatcher n e u
 
+-- a step that writes nothing, and answers so
+abbrev pub stop_of : Answer → Result (Option Stepped) Refusal
+stop_of (Ok done) = Ok None
+stop_of (Err r) = Err r
+
 -- the step of call k writes nothing and answers a
 pub record Stops (b : List ℕ) (k : ℕ) (d : Dispatcher) (room : List ℕ) (a : Answer) : Type 0 where
-  pub step : Stepped
   pub after : List ℕ
-  pub steps : Steps b k d room after step
-  pub nothing : step.written.length ≡ 0
-  pub answer : step.written.answer ≡ a
+  pub steps : Steps b k d room after (stop_of a)
 
 -- the lines stand at the buffer's start and no other byte changes; the answer is that of the first step which writes nothing
 pub record Replays (b : List ℕ) (k : ℕ) (d : Dispatcher) (before after : List ℕ) (r : Replayed) : Type 0 where

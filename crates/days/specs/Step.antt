@@ -1,12 +1,13 @@
 -- One step of a day: a call of the file, and its line.
-use Rattle.std.specs.Prelude.{ℕ, ◌+◌, ◌≡◌, ◌≢◌, ◌⊎◌, List}
+use Rattle.std.specs.Prelude.{ℕ, ◌+◌, ◌≡◌, ◌⊎◌, List, Option, Some, None, Result, Ok, Err}
 use Rattle.dispatcher.specs.Limits.{none}
-use Rattle.dispatcher.specs.Answers.{number_of}
 use Rattle.dispatcher.specs.Reports.{plain_of}
+use Rattle.dispatcher.specs.declared.Refusal.{Refusal}
 use Rattle.dispatcher.specs.declared.Dispatcher.{Dispatcher}
 use Rattle.dispatcher.specs.declared.Outcome.{Outcome}
 use Rattle.lines.specs.Line.{Writes}
 use Rattle.lines.specs.declared.Line.{Line}
+use Rattle.lines.proofs.Longest.{Wide}
 use Rattle.calls.specs.Call.{Call, create, delete, load, wake, block, Does}
 use Rattle.days.specs.declared.Stepped.{Stepped}
 use Rattle.days.specs.Calls.{CallAt, HasNoCall}
@@ -33,27 +34,26 @@ line_with k kind slot o = record { number = k + 1; kind = kind; slot = slot; rep
 abbrev pub line_of : ℕ → Call → Outcome → Line
 line_of k c o = line_with k (kind_of c) (slot_of c) o
 
--- what a call made of d becomes with its line: where the line is refused, d stays
-pub record Told (d : Dispatcher) (line : Line) (made : Outcome) (before after : List ℕ) (r : Stepped) : Type 0 where
-  pub line_written : Writes line made.dispatcher before after r.written
-  pub next : number_of r.written.answer ≡ 0 → r.dispatcher ≡ made.dispatcher
-  pub kept : number_of r.written.answer ≢ 0 → r.dispatcher ≡ d
+-- what a call becomes with its line: how long the line is and the dispatcher after the call, or why the line is refused
+abbrev pub Told : Line → Outcome → List ℕ → List ℕ → Result (Option Stepped) Refusal → Type 0
+Told line made before after (Ok (Some s)) = Writes line made.dispatcher before after (Ok s.length) × (s.dispatcher ≡ made.dispatcher)
+Told line made before after (Ok None) = ⊥
+Told line made before after (Err r) = Writes line made.dispatcher before after (Err r)
 
--- the call is made and its line written; where the line is refused the call is not made either
-pub record Tells (b : List ℕ) (k : ℕ) (d : Dispatcher) (before after : List ℕ) (r : Stepped) : Type 0 where
+-- the call is made and its line written; where the line is refused nothing comes of the call
+pub record Tells (b : List ℕ) (k : ℕ) (d : Dispatcher) (before after : List ℕ) (r : Result (Option Stepped) Refusal) : Type 0 where
   pub call : Call
   pub at : CallAt b k call
   pub outcome : Outcome
   pub does : Does call d outcome
-  pub told : Told d (line_of k call outcome) outcome before after r
+  pub wide : Wide (line_of k call outcome)
+  pub told : Told (line_of k call outcome) outcome before after r
 
--- where the file has no such call: done, with nothing written, and nothing changes
-pub record Ended (b : List ℕ) (k : ℕ) (d : Dispatcher) (before after : List ℕ) (r : Stepped) : Type 0 where
+-- where the file has no such call nothing is written
+pub record Ended (b : List ℕ) (k : ℕ) (before after : List ℕ) (r : Result (Option Stepped) Refusal) : Type 0 where
   pub none : HasNoCall b k
-  pub answer : number_of r.written.answer ≡ 0
-  pub nothing : r.written.length ≡ 0
+  pub nothing : r ≡ Ok None
   pub bytes : after ≡ before
-  pub kept : r.dispatcher ≡ d
 
-abbrev pub Steps : List ℕ → ℕ → Dispatcher → List ℕ → List ℕ → Stepped → Type 0
-Steps b k d before after r = Tells b k d before after r ⊎ Ended b k d before after r
+abbrev pub Steps : List ℕ → ℕ → Dispatcher → List ℕ → List ℕ → Result (Option Stepped) Refusal → Type 0
+Steps b k d before after r = Tells b k d before after r ⊎ Ended b k before after r

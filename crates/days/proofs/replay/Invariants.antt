@@ -4,8 +4,8 @@ use lib.ListN.{length}
 use Rattle.days.proofs.Printing.{SoFar}
 use Rattle.days.proofs.replay.Given as goal
 
-abbrev pub invariant-loop-s : goal.invariant-loop-s
-invariant-loop-s l = SoFar l.file l.k l.initial.current l.initial.buffer l.buffer l.next l.length l.current
+abbrev pub invariant-loop-stepped : goal.invariant-loop-stepped
+invariant-loop-stepped l = SoFar l.file l.k l.initial.current l.initial.buffer l.buffer l.next l.length l.current
 
-abbrev pub decreases-loop-s : goal.decreases-loop-s
-decreases-loop-s l = length l.initial.buffer - l.length
+abbrev pub decreases-loop-stepped : goal.decreases-loop-stepped
+decreases-loop-stepped l = length l.initial.buffer - l.length

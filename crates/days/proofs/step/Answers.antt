@@ -1,16 +1,19 @@
--- `step` meets its promise: the call that stands at the place is made by the function that makes such calls, and told.
+-- `step` meets its promise: the call that stands at the place is made, and its line is written.
+use Prim.Native.Nat.{◌<◌}
+use mathlib.Core.Path.{refl}
 use mathlib.Core.Logic.{inl}
-use Rattle.calls.specs.Call.{create, delete, wake, block}
+use Rattle.std.proofs.lemmas.Result.{err_from_is_err_and}
+use native.Mathlib.Omega.{arith}
+use Rattle.days.specs.Calls.{call_of}
+use Rattle.days.proofs.Calling.{call_small}
 use Rattle.days.proofs.step.Goals as goal
 
-pub returns-in-Create : goal.returns-in-Create
-returns-in-Create c = inl (record { call = create c.in-Create.slot c.in-Create.priority c.in-Create.mask; at = c.in-Create.ensures; outcome = _; does = c.create.ensures; told = c.told.ensures })
+pub returns-in_err-length : goal.returns-in_err-length
+returns-in_err-length c =
+    let refused = err_from_is_err_and c.from_residual.result c.from_residual.ensures.1 in
+    rw (refused.1, refused.2)
+    (inl (record { call = call_of c.in-Some.call; at = c.in-Some.ensures; outcome = c.make-made.result; does = c.make-made.ensures; wide = record { number = omega (arith, call_small _ c.args.k (call_of c.in-Some.call) (λ o. (c.type_inv.file o).fits) c.in-Some.ensures); slot = rw (← c.slot.ensures) (omega arith); answer = let n : c.into.result.number < 256 = omega arith in rw c.into.ensures at n; moves = omega arith; started = omega arith; stopped = omega arith }; told = rw (← c.kind.ensures, ← c.slot.ensures, ← c.into.ensures) c.in_err-length.ensures }))
 
-pub returns-in-Wake : goal.returns-in-Wake
-returns-in-Wake c = inl (record { call = wake c.in-Wake.slot; at = c.in-Wake.ensures; outcome = _; does = c.wake.ensures; told = c.told-in-Wake.ensures })
-
-pub returns-in-Block : goal.returns-in-Block
-returns-in-Block c = inl (record { call = block c.in-Block.slot; at = c.in-Block.ensures; outcome = _; does = c.block.ensures; told = c.told-in-Block.ensures })
-
-pub returns-in-Delete : goal.returns-in-Delete
-returns-in-Delete c = inl (record { call = delete c.in-Delete.slot; at = c.in-Delete.ensures; outcome = _; does = c.delete.ensures; told = c.told-in-Delete.ensures })
+pub returns : goal.returns
+returns c =
+    inl (record { call = call_of c.in-Some.call; at = c.in-Some.ensures; outcome = c.make-made.result; does = c.make-made.ensures; wide = record { number = omega (arith, call_small _ c.args.k (call_of c.in-Some.call) (λ o. (c.type_inv.file o).fits) c.in-Some.ensures); slot = rw (← c.slot.ensures) (omega arith); answer = let n : c.into.result.number < 256 = omega arith in rw c.into.ensures at n; moves = omega arith; started = omega arith; stopped = omega arith }; told = rw (← c.kind.ensures, ← c.slot.ensures, ← c.into.ensures) (c.in_ok-length.ensures, refl) })

@@ -1,0 +1,27 @@
+-- A day's text as a closure is told it, piece by piece.
+use Rattle.std.specs.Prelude.{ℕ, List, Result, Ok, Err, ⊤}
+use Rattle.std.specs.Fn.{Mut, CalledAt}
+use Rattle.std.specs.List.{FoldsTo, concat}
+use denote.Ref.{Bor}
+use Rattle.days.specs.Replay.{DayText}
+
+module _ {F E : Type 0} (calls : Mut F (Bor (List ℕ) × Unit {0}) (Result ⊤ E)) where
+  -- f was called at each piece in turn, and each time it went well
+  abbrev pub Hears : F → List (List ℕ) → F → Type 0
+  Hears f pieces last = FoldsTo (λ p piece q. CalledAt calls p piece (Ok tt) q) f pieces last
+
+  -- the pieces are the day's text
+  pub record HearsDay (f : F) (b : List ℕ) : Type 0 where
+    pub pieces : List (List ℕ)
+    pub last : F
+    pub hears : Hears f pieces last
+    pub text : DayText b (concat pieces)
+
+  -- at a piece it failed so
+  pub record Fails (f : F) (e : E) : Type 0 where
+    pub pieces : List (List ℕ)
+    pub before : F
+    pub hears : Hears f pieces before
+    pub piece : List ℕ
+    pub after : F
+    pub failed : CalledAt calls before piece (Err e) after
