@@ -54,18 +54,19 @@ fn entries(d: &Dispatcher) -> Woken
     requires { SlotsLegal d.now }
     ensures { EntriesEnd d.now result.end result.places }
 {
-    let mut places = [Dispatcher::NONE; Dispatcher::SLOTS];
+    let mut woken = Woken {
+        end: Dispatcher::SLOTS,
+        places: [Dispatcher::NONE; Dispatcher::SLOTS],
+    };
     for (k, slot) in d.order.iter().enumerate() {
         let slot = usize::from(*slot);
-        if Dispatcher::SLOTS <= slot || !is_entry(d.tasks[slot].mask, places[slot]) {
-            return Woken { end: k, places }; // not where it was met: of two equal entries the later one
+        if Dispatcher::SLOTS <= slot || !is_entry(d.tasks[slot].mask, woken.places[slot]) {
+            woken.end = k; // not where it was met: of two equal entries the later one
+            break;
         }
-        places[slot] = k as u16;
+        woken.places[slot] = k as u16;
     }
-    Woken {
-        end: Dispatcher::SLOTS,
-        places,
-    }
+    woken
 }
 
 // Whether all places hold NONE. The loop has no exit, so that the compiler compares many places at once.
