@@ -1,13 +1,15 @@
 -- The cases hold: a test that computes them on the model, and why it tells of every result that the promises allow.
-use Prim.Native.Nat.{ℕ}
 use mathlib.Core.Path.{◌≡◌, refl, ap, ◌∙◌, subst}
-use mathlib.Core.Bool.{Bool, true, false, ◌&&◌}
+use mathlib.Core.Bool.{Bool, true, ◌&&◌}
 use mathlib.Core.List.{List, [], ◌∷◌}
 use lib.ListN.{take}
 use lib.Dec.{eqb, leb}
 use borrow.Author.Tests.{eqb-true, leb-true}
 use Rattle.laws.specs.Counting.{any_below}
-use Rattle.laws.proofs.Deciding.{clash}
+use Rattle.std.specs.Prelude.{nat_eq}
+use Rattle.std.specs.Cmp.Lexicographic.{pointwise}
+use Rattle.std.proofs.lemmas.Slice.Eq.{bytes_eq-Decides}
+use Rattle.laws.proofs.Testing.{and_both}
 use Rattle.laws.proofs.Picking.{pick}
 use Rattle.seating.proofs.Rows.{first}
 use Rattle.seating.proofs.Take.{seats}
@@ -31,27 +33,6 @@ use Rattle.calls.specs.Call.{Call, create, delete, load, wake, block, Fits}
 use Rattle.calls.specs.Cases.{Line, Prints, Follows, Case, Holds, AllHold, cases}
 use Rattle.calls.proofs.Calling.{does_same, does_keeps, model_of, model_does}
 
-both : (a b : Bool) → a && b ≡ true → (a ≡ true) × (b ≡ true)
-both true b h = (refl, h)
-both false b h = clash h refl
-
-same_list_lem : List ℕ → List ℕ → Bool
-same_list_lem [] [] = true
-same_list_lem [] (b ∷ m) = false
-same_list_lem (a ∷ l) [] = false
-same_list_lem (a ∷ l) (b ∷ m) = eqb a b && same_list_lem l m
-
-same_list : (l m : List ℕ) → same_list_lem l m ≡ true → l ≡ m
-unfolding same_list_lem
-same_list [] [] h = refl
-same_list [] (b ∷ m) h = clash h refl
-same_list (a ∷ l) [] h = clash h refl
-same_list (a ∷ l) (b ∷ m) h =
-    let k = both (eqb a b) (same_list_lem l m) h in
-    let p = eqb-true a b k.0 in
-    let q = same_list l m k.1 in
-    cc
-
 -- ---- one line
 
 fits_all : List TaskRecord → Bool
@@ -61,7 +42,7 @@ fits_all (t ∷ ts) = leb t.priority greatest_priority && fits_all ts
 fits_all_lem : (ts : List TaskRecord) → fits_all ts ≡ true → Fits (load ts)
 unfolding fits_all
 fits_all_lem [] h = tt
-fits_all_lem (t ∷ ts) h = let k = both (leb t.priority greatest_priority) (fits_all ts) h in (leb-true t.priority greatest_priority k.0, fits_all_lem ts k.1)
+fits_all_lem (t ∷ ts) h = let k = and_both (leb t.priority greatest_priority) (fits_all ts) h in (leb-true t.priority greatest_priority k.0, fits_all_lem ts k.1)
 
 fits : Call → Bool
 fits (create slot priority mask) = leb priority greatest_priority
@@ -81,21 +62,21 @@ fits_yes (block slot) h = tt
 prints : Line → Outcome → Bool
 prints l r =
     eqb (number_of r.report.answer) l.answer && (eqb r.report.moves l.moves && (eqb r.report.started l.started
-    && (eqb r.report.stopped l.stopped && same_list_lem (take r.dispatcher.cores r.dispatcher.seats) l.seats)))
+    && (eqb r.report.stopped l.stopped && pointwise nat_eq (take r.dispatcher.cores r.dispatcher.seats) l.seats)))
 
 prints_yes : (l : Line) (r : Outcome) → prints l r ≡ true → Prints l r
 unfolding prints
 prints_yes l r h =
-    let a = both (eqb (number_of r.report.answer) l.answer) _ h in
-    let b = both (eqb r.report.moves l.moves) _ a.1 in
-    let c = both (eqb r.report.started l.started) _ b.1 in
-    let d = both (eqb r.report.stopped l.stopped) _ c.1 in
+    let a = and_both (eqb (number_of r.report.answer) l.answer) _ h in
+    let b = and_both (eqb r.report.moves l.moves) _ a.1 in
+    let c = and_both (eqb r.report.started l.started) _ b.1 in
+    let d = and_both (eqb r.report.stopped l.stopped) _ c.1 in
     record {
       answer = eqb-true _ _ a.0;
       moves = eqb-true _ _ b.0;
       started = eqb-true _ _ c.0;
       stopped = eqb-true _ _ d.0;
-      seats = same_list _ _ d.1;
+      seats = (bytes_eq-Decides _ _).0 d.1;
     }
 
 -- ---- the lines of a case, and the cases
@@ -110,8 +91,8 @@ follows_yes d [] L S h = tt
 follows_yes d (l ∷ ls) L S h = λ r does.
     let m = model_of l.call d in
     let e : m ≡ r = does_same l.call d (model_does l.call L S) does in
-    let a = both (fits l.call) _ h in
-    let b = both (prints l m) _ a.1 in
+    let a = and_both (fits l.call) _ h in
+    let b = and_both (prints l m) _ a.1 in
     let k = does_keeps l.call m (fits_yes l.call a.0) L S (model_does l.call L S) in
     (subst (Prints l) e (prints_yes l m b.0), subst (λ (x : Outcome). Follows x.dispatcher ls) e (follows_yes m.dispatcher ls k.0 k.1 b.1))
 
@@ -129,7 +110,7 @@ holds_yes c h = record {
     model = freshly (count_decides c.cores)
 
     k : (eqb (number_of (fresh_of (count_test c.cores) c.cores).report.answer) c.answer ≡ true) × (follows (fresh_of (count_test c.cores) c.cores).dispatcher c.lines ≡ true)
-    k = both _ _ h
+    k = and_both _ _ h
 
 all : List Case → Bool
 all [] = true
@@ -138,10 +119,10 @@ all (c ∷ cs) = holds c && all cs
 all_yes : (cs : List Case) → all cs ≡ true → AllHold cs
 unfolding all
 all_yes [] h = tt
-all_yes (c ∷ cs) h = let k = both (holds c) (all cs) h in (holds_yes c k.0, all_yes cs k.1)
+all_yes (c ∷ cs) h = let k = and_both (holds c) (all cs) h in (holds_yes c k.0, all_yes cs k.1)
 
 computed : all cases ≡ true
-unfolding all holds follows prints fits same_list_lem first_of any_below pick seats first turn table find chosen_of arrive_of fill_of
+unfolding all holds follows prints fits first_of any_below pick seats first turn table find chosen_of arrive_of fill_of
 computed = refl
 
 -- the cases that document 01 marks, in one statement

@@ -25,6 +25,7 @@ use Rattle.shifting.specs.Rule.{KeepsIn, LeastIn}
 use Rattle.shifting.proofs.Board.{ranked}
 use Rattle.tasks.specs.Named.{slot_refusals}
 use Rattle.tasks.specs.Create.{entry_refusals}
+use Rattle.tasks.proofs.Model.{entry_later, slot_later}
 use Rattle.boot.specs.Load.{list_refusals}
 use Rattle.boot.proofs.Refusing.{list_later}
 use Rattle.calls.specs.Call.{Call, create, delete, load, wake, block, Does, refusals_of}
@@ -91,11 +92,11 @@ never_unsound n l d c r h does i = go c (refused_with_cause c d r does (λ z. no
     S = (sound_after n l d h).1
 
     go : (c : Call) → Applies (refusals_of c d) (number_of r.report.answer) → ⊥
-    go (create slot priority mask) = unsound_never (entry_refusals d slot priority mask) (omega arith, (omega arith, (omega arith, (omega arith, (omega arith, tt))))) S _ i
-    go (delete slot) = unsound_never (slot_refusals d slot) (omega arith, (omega arith, tt)) S _ i
+    go (create slot priority mask) = unsound_never (entry_refusals d slot priority mask) (entry_later d slot priority mask) S _ i
+    go (delete slot) = unsound_never (slot_refusals d slot) (slot_later d slot) S _ i
     go (load list) = unsound_never (list_refusals d list) (list_later d list) S _ i
-    go (wake slot) = unsound_never (slot_refusals d slot ++ (9 when IsAlreadyReady d slot ∷ [])) (omega arith, (omega arith, (omega arith, tt))) S _ i
-    go (block slot) = unsound_never (slot_refusals d slot ++ (10 when IsNotReady d slot ∷ [])) (omega arith, (omega arith, (omega arith, tt))) S _ i
+    go (wake slot) = unsound_never (slot_refusals d slot ++ (9 when IsAlreadyReady d slot ∷ [])) (grind arith) S _ i
+    go (block slot) = unsound_never (slot_refusals d slot ++ (10 when IsNotReady d slot ∷ [])) (grind arith) S _ i
 
 -- ---- who runs is fixed by who is ready
 

@@ -2,7 +2,7 @@
 use Prim.Native.Nat.{ℕ}
 use mathlib.Core.Path.{◌≡◌, refl, sym, ap, subst}
 use mathlib.Core.Logic.Iff
-use mathlib.Core.Logic.{◌≢◌, ◌⊎◌, inl, inr, ◌↔◌}
+use mathlib.Core.Logic.{◌≢◌, inl, inr, ◌↔◌}
 use native.Mathlib.Decide.{ℕ_discrete}
 use native.Mathlib.Omega.{arith}
 use mathlib.Core.List.{List}
@@ -42,11 +42,7 @@ empty_ready : (n t : ℕ) → Ready (empty_of n) t → ⊥
 empty_ready n t r = let e = get_or-replicate slot_limit r.place none none r.within in omega (arith, e, r.stands, r.slot)
 
 pub fresh_ready : {n : ℕ} {r : Outcome} → Freshly n r → (t : ℕ) → Ready r.dispatcher t → ⊥
-fresh_ready {n} {r} f t = go (ℕ_discrete (number_of r.report.answer) 0)
-  where
-    go : Dec (number_of r.report.answer ≡ 0) → Ready r.dispatcher t → ⊥
-    go (yes z) = rw (f.done z) (empty_ready n t)
-    go (no z) = rw (f.refused z) (empty_ready 1 t)
+fresh_ready {n} {r} f t = elim (ℕ_discrete (number_of r.report.answer) 0) [ yes z ↦ rw (f.done z) (empty_ready n t) | no z ↦ rw (f.refused z) (empty_ready 1 t) ]
 
 -- nobody is ready, so nobody waits
 pub fresh_rule : {n : ℕ} {r : Outcome} → Freshly n r → KeepsIn r.dispatcher (seat_at r.dispatcher)
@@ -122,24 +118,19 @@ module _ {d : Dispatcher} {slot : ℕ} {r : Outcome} (L : Shaped d) (S : Sound d
       rw (E.emptied, E.reported) (slot_rule E.block.dispatcher slot no_task (ended_off E z L S) d (k.0, k.1 (block_done E z)))
 
   pub delete_rule : KeepsIn d (seat_at d) → Ruled d r
-  delete_rule K = promised_rule D K (λ z. go z (ready_or_not d slot))
-    where
-      go : number_of r.report.answer ≡ 0 → Ready d slot ⊎ (Ready d slot → ⊥) → Rule d r.dispatcher r.report.moves
-      go z (inl on) = ended_rule z K ((D.done z).ready on)
-      go z (inr off) = writes_rule d slot no_task off S K ((D.done z).not_ready off)
+  delete_rule K = promised_rule D K (λ z. elim (ready_or_not d slot) [ inl on ↦ ended_rule z K ((D.done z).ready on) | inr off ↦ writes_rule d slot no_task off S K ((D.done z).not_ready off) ])
 
   ended_ready : number_of r.report.answer ≡ 0 → BlocksThenEmpties d slot r → (t : ℕ) → Ready r.dispatcher t ↔ (Ready d t × (t ≢ slot))
   ended_ready z E t =
       let e = slot_ready E.block.dispatcher slot no_task (ended_off E z L S) t in
       let k = block_ready L S E.blocks (block_done E z) t in
-      rw E.emptied ((λ q. k.0 (e.0 q)), λ q. e.1 (k.1 q))
+      rw E.emptied (grind arith)
 
   pub delete_ready : number_of r.report.answer ≡ 0 → (t : ℕ) → Ready r.dispatcher t ↔ (Ready d t × (t ≢ slot))
-  delete_ready z t = go (ready_or_not d slot)
-    where
-      go : Ready d slot ⊎ (Ready d slot → ⊥) → Ready r.dispatcher t ↔ (Ready d t × (t ≢ slot))
-      go (inl on) = ended_ready z ((D.done z).ready on) t
-      go (inr off) = let w = writes_ready d slot no_task off ((D.done z).not_ready off) t in ((λ q. let k = w.0 q in (k, λ e. off (subst (Ready d) e k))), λ q. w.1 q.0)
+  delete_ready z t = elim (ready_or_not d slot) [
+    | inl on ↦ ended_ready z ((D.done z).ready on) t
+    | inr off ↦ let w = writes_ready d slot no_task off ((D.done z).not_ready off) t in ((λ q. (w.0 q, λ e. off (subst (Ready d) e (w.0 q)))), λ q. w.1 q.0)
+  ]
 
 -- ---- load: empty slots
 
