@@ -12,15 +12,12 @@ use borrow.Author.Tests.{eqb-true, eqb-false, lt-ltb}
 use Rattle.std.specs.Prelude.{◌==◌, Some, None, position}
 use Rattle.std.proofs.lemmas.List.Quantifiers.{position-Some}
 use Rattle.std.proofs.lemmas.List.Folds.{position_or_len-set}
-use Rattle.std.proofs.lemmas.List.Sums.{prefix_len-le-length, passes_at_first, fails_before_first, position_or_len_is}
+use Rattle.std.proofs.lemmas.List.Sums.{passes_at_first, fails_before_first, position_or_len_is}
 use Rattle.laws.specs.Lists.{In, Distinct}
 use Rattle.laws.proofs.Testing.{eqb_true, eqb_false}
 use Rattle.order.specs.ComesBefore.{place_in}
 
 -- ---- the place: the first that holds the number
-
-pub place_le : (l : List ℕ) (t : ℕ) → place_in l t ≤ length l
-place_le l t = prefix_len-le-length _ l
 
 pub place_holds : (l : List ℕ) (t z : ℕ) → place_in l t < length l → get_or l (place_in l t) z ≡ t
 place_holds l t z h = eqb-true _ _ (passes_at_first (λ a. eqb a t) l z h)
