@@ -1,8 +1,8 @@
 -- What is said after each line of a day and at its end, as text in ASCII.
-use Rattle.std.specs.Prelude.{ℕ, cond, List, [], ◌∷◌, ◌++◌, eqb}
+use Rattle.std.specs.Prelude.{ℕ, List, [], ◌∷◌, ◌++◌, Option, Some, None}
 use Rattle.texts.specs.Joined.{newline, space, comma, joined}
 use Rattle.decimals.specs.Decimal.{decimal}
-use Rattle.dispatcher.specs.Limits.{none}
+use Rattle.bench.specs.declared.Difference.{Difference}
 use Rattle.bench.specs.declared.Tally.{Tally}
 
 abbrev pub agree_word : List ℕ
@@ -31,25 +31,31 @@ abbrev pub said : List (List ℕ) → List ℕ
 said words = joined space words ++ (newline ∷ [])
 
 -- `agree`, or `differ SLOT`
-unfoldable pub verdict_text : ℕ → List ℕ
-verdict_text slot = cond (eqb slot none) (said (agree_word ∷ [])) (said (differ_word ∷ decimal slot ∷ []))
+abbrev pub verdict_text : Option ℕ → List ℕ
+verdict_text None = said (agree_word ∷ [])
+verdict_text (Some slot) = said (differ_word ∷ decimal slot ∷ [])
+
+-- `line L slot S`
+abbrev pub place_text : Difference → List ℕ
+place_text d = joined space (line_word ∷ decimal d.line ∷ slot_word ∷ decimal d.slot ∷ [])
 
 -- `agree M of N, first difference line L slot S`
-abbrev pub difference_text : Tally → ℕ → List ℕ
-difference_text t lines =
+abbrev pub difference_text : ℕ → ℕ → Difference → List ℕ
+difference_text agree lines first =
     said
     (agree_word
-    ∷ decimal t.agree
+    ∷ decimal agree
     ∷ of_word
     ∷ (decimal lines ++ (comma ∷ []))
     ∷ first_word
     ∷ difference_word
-    ∷ line_word
-    ∷ decimal t.line
-    ∷ slot_word
-    ∷ decimal t.slot
+    ∷ place_text first
     ∷ [])
 
+abbrev pub last_with : ℕ → ℕ → Option Difference → List ℕ
+last_with agree lines None = said (agree_word ∷ decimal agree ∷ [])
+last_with agree lines (Some first) = difference_text agree lines first
+
 -- `agree N` where no line differs
-unfoldable pub last_text : Tally → ℕ → List ℕ
-last_text t lines = cond (eqb t.slot none) (said (agree_word ∷ decimal t.agree ∷ [])) (difference_text t lines)
+abbrev pub last_text : Tally → ℕ → List ℕ
+last_text t lines = last_with t.agree lines t.first

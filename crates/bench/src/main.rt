@@ -2,175 +2,139 @@
 // and the dispatcher does not run, or the other way round; the last line counts the lines that agree. A refused file has the one line that says why.
 #![tactic(auto)]
 
-ghost use Rattle.std.specs.Prelude.{◌+◌, ◌≤◌, ◌<◌, ◌≡◌, ◌++◌, length};
-ghost use Rattle.texts.specs.Put.{Puts};
-ghost use Rattle.decimals.specs.Decimal.{decimal};
+ghost use Rattle.std.specs.Prelude.{◌<◌, ◌≡◌, Some};
+ghost use Rattle.files.specs.Reading.{Reads};
 ghost use Rattle.bench.specs.Tally.{counted_of};
-ghost use Rattle.bench.specs.Text.{verdict_text, last_text};
+ghost use Rattle.bench.specs.Text.{place_text, verdict_text, last_text};
 
-use dispatcher::{Answer, Dispatcher};
-use files::Reading;
+use dispatcher::Dispatcher;
+use files::Layout;
 use lines::Line;
-use std::io;
-use std::io::{Eprint, Print};
+use std::io::Print;
+use std::{fmt, io};
 
-// Of the lines so far: how many agree, and the number and slot of the first that does not; its slot is NONE where there is none.
-#[derive(Clone, Copy)]
-struct Tally {
-    agree: usize,
+// A line where engine and dispatcher differ, and the lowest slot that differs there.
+#[derive(Clone, Copy, Debug, PartialEq, Eq)]
+struct Difference {
     line: usize,
     slot: u16,
 }
 
-// The tally with one more line, by its number and the lowest slot that differs there, or NONE.
-fn counted(t: Tally, line: usize, slot: u16) -> Tally
-    requires { t.agree < line }
-    ensures { result ≡ counted_of t line slot }
-{
-    let mut next = t;
-    if slot == Dispatcher::NONE {
-        next.agree = t.agree + 1;
-        return next;
+impl fmt::Display for Difference {
+    ghost output = { λ d. Some (place_text d) };
+
+    fn fmt<W: fmt::Write>(&self, f: &mut fmt::Formatter<W>) -> fmt::Result {
+        let line = self.line;
+        let slot = self.slot;
+        write!(f, "line {line} slot {slot}")
     }
-    if t.slot == Dispatcher::NONE {
-        next.line = line;
-        next.slot = slot;
+}
+
+// Of the lines so far: how many agree, and the first that does not.
+#[derive(Clone, Copy, Debug, PartialEq, Eq)]
+struct Tally {
+    agree: usize,
+    first: Option<Difference>,
+}
+
+impl Tally {
+    // With one more line, by its number and the lowest slot that differs there.
+    fn counted(self, line: usize, differs: Option<u16>) -> Tally
+        requires { self.agree < line }
+        ensures { result ≡ counted_of self line differs }
+    {
+        match differs {
+            None => Tally {
+                agree: self.agree + 1,
+                ..self
+            },
+            Some(slot) => Tally {
+                first: self.first.or(Some(Difference { line, slot })),
+                ..self
+            },
+        }
     }
-    next
 }
 
-// Puts words at a place and gives the place after them. Whoever calls has made sure of the room.
-fn put_words(text: &mut [u8], at: usize, words: &[u8]) -> usize
-    requires { at + length words.now ≤ length text.old }
-    ensures { Puts words.now at text.old text.new result }
-{
-    let n = words.len();
-    texts::copy(words, n, &mut text[at..]);
-    at + n
+// What is said after a line: whether it agrees, or the lowest slot that differs.
+#[derive(Clone, Copy, Debug, PartialEq, Eq)]
+struct Verdict {
+    differs: Option<u16>,
 }
 
-// Words, and a number.
-fn put_number(text: &mut [u8], at: usize, words: &[u8], n: u64) -> usize
-    requires { at + length (words.now ++ decimal n) ≤ length text.old }
-    ensures { Puts (words.now ++ decimal n) at text.old text.new result }
-{
-    let next = put_words(text, at, words);
-    decimals::put(text, next, n)
-}
+impl fmt::Display for Verdict {
+    ghost output = { λ v. Some (verdict_text v.differs) };
 
-// Whether a line agrees, at the start of the text.
-fn put_verdict(text: &mut [u8], slot: u16) -> usize
-    requires { length (verdict_text slot) ≤ length text.old }
-    ensures { Puts (verdict_text slot) 0 text.old text.new result }
-{
-    if slot == Dispatcher::NONE {
-        return put_words(text, 0, b"agree\n");
+    fn fmt<W: fmt::Write>(&self, f: &mut fmt::Formatter<W>) -> fmt::Result {
+        match self.differs {
+            None => writeln!(f, "agree"),
+            Some(slot) => writeln!(f, "differ {slot}"),
+        }
     }
-    let next = put_number(text, 0, b"differ ", slot as u64);
-    texts::put_byte(text, next, b'\n')
 }
 
-// The last line, at the start of the text.
-fn put_last(text: &mut [u8], t: Tally, lines: usize) -> usize
-    requires { length (last_text t lines) ≤ length text.old }
-    ensures { Puts (last_text t lines) 0 text.old text.new result }
-{
-    let agree = put_number(text, 0, b"agree ", t.agree as u64);
-    if t.slot == Dispatcher::NONE {
-        return texts::put_byte(text, agree, b'\n');
+// What is said at the end of so many lines.
+#[derive(Clone, Copy, Debug, PartialEq, Eq)]
+struct Last {
+    tally: Tally,
+    lines: usize,
+}
+
+impl fmt::Display for Last {
+    ghost output = { λ l. Some (last_text l.tally l.lines) };
+
+    fn fmt<W: fmt::Write>(&self, f: &mut fmt::Formatter<W>) -> fmt::Result {
+        let agree = self.tally.agree;
+        let lines = self.lines;
+        match self.tally.first {
+            None => writeln!(f, "agree {agree}"),
+            Some(first) => writeln!(f, "agree {agree} of {lines}, first difference {first}"),
+        }
     }
-    let all = put_number(text, agree, b" of ", lines as u64);
-    let line = put_number(text, all, b", first difference line ", t.line as u64);
-    let slot = put_number(text, line, b" slot ", t.slot as u64);
-    texts::put_byte(text, slot, b'\n')
-}
-
-// No verdict has more bytes, its newline included.
-const LONGEST_VERDICT: usize = 13;
-
-// No last line has more.
-const LONGEST_LAST: usize = 106;
-
-fn print_verdict(rt: &impl Print, slot: u16) -> io::Result<()> {
-    let mut text = [0u8; LONGEST_VERDICT];
-    let n = put_verdict(&mut text, slot);
-    rt.write_all(&text[..n])
-}
-
-fn print_last(rt: &impl Print, t: Tally, lines: usize) -> io::Result<()> {
-    let mut text = [0u8; LONGEST_LAST];
-    let n = put_last(&mut text, t, lines);
-    rt.write_all(&text[..n])
-}
-
-// What a call left: the lowest slot that differs or NONE, and the dispatcher.
-#[derive(Clone, Copy)]
-struct Made {
-    slot: u16,
-    dispatcher: Dispatcher,
-}
-
-// Makes call k and prints its line and whether engine and dispatcher agree. A line has room whatever its numbers are.
-fn print_call(rt: &impl Print, file: &[u8], k: usize, d: Dispatcher) -> io::Result<Made> {
-    let mut line = [0u8; Line::LONGEST];
-    let s = days::step(file, k, d, &mut line);
-    let written = s.written;
-    let length = written.length;
-    let dispatcher = s.dispatcher;
-    let compared = engine::compare(dispatcher);
-    let slot = compared.slot;
-    rt.write_all(&line[..length])?;
-    print_verdict(rt, slot)?;
-    Ok(Made { slot, dispatcher })
 }
 
 // Prints the day, or fails where it can't be written.
-fn print_day(rt: &impl Print, file: &[u8], cores: u8, calls: usize) -> io::Result<()> {
-    let fresh = Dispatcher::fresh(cores);
-    let mut d = fresh.dispatcher;
-    let mut t = Tally {
+fn print_day(rt: &impl Print, file: &[u8], layout: Layout) -> io::Result<()>
+    requires { Reads file.now (Ok layout) }
+{
+    let calls = layout.records + layout.events;
+    let mut d = Dispatcher::fresh(layout.cores).dispatcher;
+    let mut tally = Tally {
         agree: 0,
-        line: 0,
-        slot: Dispatcher::NONE,
+        first: None,
     };
-    let mut line: usize = 0;
-    while line < calls {
-        let made = print_call(rt, file, line, d)?;
-        line += 1;
-        t = counted(t, line, made.slot);
-        d = made.dispatcher;
+    for k in 0..calls {
+        // A line has room whatever its numbers are.
+        let mut line = [0u8; Line::LONGEST];
+        let Ok(Some(stepped)) = days::step(file, k, d, &mut line) else {
+            break;
+        };
+        d = stepped.dispatcher;
+        let differs = engine::compare(d).unwrap_or(None);
+        rt.write_all(&line[..stepped.length])?;
+        rt.print(Verdict { differs })?;
+        tally = tally.counted(k + 1, differs);
     }
-    print_last(rt, t, calls)
-}
-
-fn print_fault(rt: &impl Print, answer: Answer, offset: usize) -> io::Result<()> {
-    let mut line = [0u8; Line::LONGEST_FAULT];
-    let w = lines::write_fault(answer.number(), offset, &mut line);
-    let length = w.length;
-    rt.write_all(&line[..length])
+    rt.print(Last {
+        tally,
+        lines: calls,
+    })
 }
 
 fn print(rt: &impl Print, file: &[u8]) -> io::Result<()> {
     match files::read(file) {
-        Reading::Layout {
-            cores,
-            records,
-            events,
-        } => print_day(rt, file, cores, records + events),
-        Reading::Refused { answer, offset } => print_fault(rt, answer, offset),
-    }
-}
-
-fn answer(rt: &(impl Print + Eprint), file: &[u8]) {
-    if let Err(error) = print(rt, file) {
-        host::fail(rt, "standard output", error);
+        Ok(layout) => print_day(rt, file, layout),
+        Err(fault) => rt.write_all(&days::fault_line(fault)),
     }
 }
 
 fn main(rt: HostRuntime) {
     let mut file = files::room();
-    match host::read_full(&mut rt.stdin(), &mut file) {
-        Ok(n) => answer(&rt, &file[..n]),
-        Err(error) => host::fail(&rt, "standard input", error),
+    let n = match host::read_full(&mut rt.stdin(), &mut file) {
+        Ok(n) => n,
+        Err(error) => return host::fail(&rt, "standard input", error),
+    };
+    if let Err(error) = print(&rt, &file[..n]) {
+        host::fail(&rt, "standard output", error);
     }
 }

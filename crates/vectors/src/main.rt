@@ -2,145 +2,62 @@
 // arguments name pairs: an event file, and its lines; ` ok` says that both are as they should be.
 #![tactic(auto)]
 
-use dispatcher::{Answer, Dispatcher};
-use files::Reading;
+ghost use Rattle.files.specs.Reading.{Reads};
+
+use dispatcher::Dispatcher;
+use files::Layout;
 use lines::Line;
 use std::io::{Print, Read};
 use std::rt::{Env, Files};
-use std::{fs, str};
-
-// Whether as many stored bytes as there is room for are this text.
-fn same_next(stored: &mut impl Read, text: &[u8], room: &mut [u8]) -> bool {
-    match host::read_full(stored, room) {
-        Ok(n) => &room[..n] == text,
-        Err(_) => false,
-    }
-}
-
-// The bytes of a block.
-const BLOCK: usize = 65536;
+use std::{fs, io, str};
 
 // Whether the stored lines go on with this text.
 fn goes_on(stored: &mut impl Read, text: &[u8]) -> bool {
-    let mut next = [0u8; BLOCK];
-    let length = text.len();
-    if next.len() < length {
+    let mut room = [0u8; days::BLOCK];
+    // No longer text is told at once.
+    let Some(next) = room.get_mut(..text.len()) else {
         return false;
-    }
-    same_next(stored, text, &mut next[..length])
+    };
+    matches!(host::read_full(stored, next), Ok(n) if &next[..n] == text)
 }
 
 fn is_at_end(stored: &mut impl Read) -> bool {
-    let mut one = [0u8; 1];
-    matches!(stored.read(&mut one), Ok(0))
+    matches!(stored.read(&mut [0]), Ok(0))
 }
 
-// Where a day stands: the next call, and the dispatcher before it.
-#[derive(Clone, Copy)]
-struct Place {
-    next: usize,
-    dispatcher: Dispatcher,
-}
-
-// Compares as many lines as a block holds. Where they differ the place stays.
-fn same_block(file: &[u8], next: usize, d: Dispatcher, stored: &mut impl Read) -> Place {
-    let mut block = [0u8; BLOCK];
-    let r = days::replay(file, next, d, &mut block);
-    let length = r.length;
-    if !goes_on(stored, &block[..length]) {
-        return Place {
-            next,
-            dispatcher: d,
+// Whether the plain engine keeps just the tasks that the dispatcher runs after each call of a day.
+fn agrees(file: &[u8], layout: Layout) -> bool
+    requires { Reads file.now (Ok layout) }
+{
+    let mut d = Dispatcher::fresh(layout.cores).dispatcher;
+    for k in 0..layout.records + layout.events {
+        let mut line = [0u8; Line::LONGEST];
+        let Ok(Some(stepped)) = days::step(file, k, d, &mut line) else {
+            return false;
         };
-    }
-    let dispatcher = r.dispatcher;
-    Place {
-        next: r.next,
-        dispatcher,
-    }
-}
-
-fn same_day(file: &[u8], cores: u8, calls: usize, stored: &mut impl Read) -> bool {
-    let fresh = Dispatcher::fresh(cores);
-    let mut d = fresh.dispatcher;
-    let mut next: usize = 0;
-    while next < calls {
-        let place = same_block(file, next, d, stored);
-        if place.next <= next {
+        d = stepped.dispatcher;
+        if !matches!(engine::compare(d), Ok(None)) {
             return false;
         }
-        next = place.next;
-        d = place.dispatcher;
     }
     true
 }
 
-// Whether the plain engine keeps just the tasks that the dispatcher runs.
-fn agree(d: Dispatcher) -> bool {
-    let compared = engine::compare(d);
-    compared.slot == Dispatcher::NONE
-}
-
-// The dispatcher after call k.
-fn after_call(file: &[u8], k: usize, d: Dispatcher) -> Dispatcher {
-    let mut line = [0u8; Line::LONGEST];
-    let s = days::step(file, k, d, &mut line);
-    s.dispatcher
-}
-
-// Whether engine and dispatcher agree after each call of a day.
-fn agrees(file: &[u8], cores: u8, calls: usize) -> bool {
-    let fresh = Dispatcher::fresh(cores);
-    let mut d = fresh.dispatcher;
-    let mut k: usize = 0;
-    while k < calls {
-        d = after_call(file, k, d);
-        if !agree(d) {
-            return false;
-        }
-        k += 1;
-    }
-    true
-}
-
-fn right_day(file: &[u8], cores: u8, calls: usize, stored: &mut impl Read) -> bool {
-    same_day(file, cores, calls, stored) && agrees(file, cores, calls)
-}
-
-fn same_fault(answer: Answer, offset: usize, stored: &mut impl Read) -> bool {
-    let mut line = [0u8; Line::LONGEST_FAULT];
-    let w = lines::write_fault(answer.number(), offset, &mut line);
-    let length = w.length;
-    goes_on(stored, &line[..length])
-}
-
+// Whether the event file prints what is stored next, and engine and dispatcher agree.
 fn right_lines(file: &[u8], stored: &mut impl Read) -> bool {
     match files::read(file) {
-        Reading::Layout {
-            cores,
-            records,
-            events,
-        } => right_day(file, cores, records + events, stored),
-        Reading::Refused { answer, offset } => same_fault(answer, offset, stored),
+        Ok(layout) => {
+            let same = days::tell(file, layout, |lines| {
+                if goes_on(stored, lines) {
+                    Ok(())
+                } else {
+                    Err(())
+                }
+            });
+            same.is_ok() && agrees(file, layout)
+        }
+        Err(fault) => goes_on(stored, &days::fault_line(fault)),
     }
-}
-
-// Whether the event file prints the stored lines and no more, and engine and dispatcher agree; not so where either can't be opened or read.
-fn is_right<F: Read + Drop>(day: Option<F>, stored: Option<F>) -> bool {
-    let Some(mut day) = day else {
-        return false;
-    };
-    let Some(mut stored) = stored else {
-        return false;
-    };
-    let mut file = files::room();
-    let Ok(n) = host::read_full(&mut day, &mut file) else {
-        return false;
-    };
-    if !right_lines(&file[..n], &mut stored) {
-        return false;
-    }
-    is_at_end(&mut stored)
 }
 
 // The file, if its name is text and it can be opened.
@@ -149,31 +66,33 @@ fn open<R: Files>(files: &R, name: &[u8]) -> Option<R::File> {
     fs::open(files, path).ok()
 }
 
+// Whether the event file prints the stored lines and no more, and engine and dispatcher agree; nothing where one of them can't be opened or the event file can't
+// be read.
+fn judge(files: &impl Files, day: &[u8], lines: &[u8]) -> Option<bool> {
+    let mut day = open(files, day)?;
+    let mut stored = open(files, lines)?;
+    let mut file = files::room();
+    let n = host::read_full(&mut day, &mut file).ok()?;
+    Some(right_lines(&file[..n], &mut stored) && is_at_end(&mut stored))
+}
+
 // The system opens no file by a longer name.
 const LONGEST_NAME: usize = 4096;
 
 // One pair, by the places of its arguments.
-fn try_pair(rt: &(impl Env + Files + Print), day_at: usize, lines_at: usize) {
+fn try_pair(rt: &(impl Env + Files + Print), day_at: usize, lines_at: usize) -> io::Result<()> {
     let mut day = [0u8; LONGEST_NAME];
-    let n = host::arg(rt, day_at, &mut day);
+    let day = host::arg(rt, day_at, &mut day);
     let mut lines = [0u8; LONGEST_NAME];
-    let m = host::arg(rt, lines_at, &mut lines);
-    let day_file = open(rt, &day[..n]);
-    let lines_file = open(rt, &lines[..m]);
-    let _ = rt.write_all(&day[..n]);
-    if is_right(day_file, lines_file) {
-        let _ = rt.write_all(b" ok\n");
-    } else {
-        let _ = rt.write_all(b" differs\n");
-    }
+    let lines = host::arg(rt, lines_at, &mut lines);
+    let right = judge(rt, day, lines).unwrap_or(false);
+    rt.write_all(day)?;
+    rt.println(if right { " ok" } else { " differs" })
 }
 
 fn main(rt: HostRuntime) {
     // The first argument is the program's own name.
-    let pairs = host::arg_count(&rt) / 2;
-    let mut i: usize = 0;
-    while i < pairs {
-        try_pair(&rt, 2 * i + 1, 2 * i + 2);
-        i += 1;
+    for pair in 0..host::arg_count(&rt) / 2 {
+        let _ = try_pair(&rt, 2 * pair + 1, 2 * pair + 2);
     }
 }
