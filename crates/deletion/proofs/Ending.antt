@@ -1,12 +1,12 @@
 -- What a block tells of the delete: its answer but for 10; and the slot that is emptied after it.
 use Prim.Native.Nat.{ℕ, ◌<◌}
 use mathlib.Core.Path.{◌≡◌, refl, sym, ap, ◌∙◌}
-use mathlib.Core.Logic.{◌≢◌, ◌⊎◌, inl, inr}
+use mathlib.Core.Logic.{◌≢◌, inl, inr}
 use mathlib.Core.List.{[], ◌∷◌}
 use Rattle.std.specs.Prelude.{Ok}
 use native.Mathlib.Decide.{ℕ_discrete}
 use native.Mathlib.Omega.{arith}
-use Rattle.laws.specs.Answering.{◌when◌, Applies, Answers}
+use Rattle.laws.specs.Answering.{◌when◌, Answers}
 use Rattle.laws.proofs.Answering.{applies_split, answers_left, answers_past}
 use Rattle.dispatcher.specs.Limits.{slot_limit}
 use Rattle.dispatcher.specs.Slots.{no_task, Ready}
@@ -29,23 +29,17 @@ use Rattle.deletion.specs.Delete.{delete_refusals, Deletes}
 module _ (d : Dispatcher) (slot : ℕ) where
   -- another answer than 10 is the delete's too
   as_block : {n : ℕ} → n ≢ 10 → Answers (block_refusals d slot) n → Answers (delete_refusals d slot) n
-  as_block {n} other = answers_left (named_refusals d slot) (10 when IsNotReady d slot ∷ []) out
-    where
-      out : Applies (10 when IsNotReady d slot ∷ []) n → ⊥
-      out (inl (e, _)) = other e
-      out (inr a) = a
+  as_block {n} other = answers_left (named_refusals d slot) (10 when IsNotReady d slot ∷ []) (λ a. elim a [ inl h ↦ other h.0 | inr h ↦ h ])
 
   -- where the block answers 10, the delete is done
   past_block : Answers (block_refusals d slot) 10 → Answers (delete_refusals d slot) 0
   past_block = answers_past (named_refusals d slot) (10 when IsNotReady d slot ∷ []) (λ m a. let s = named_turn {d = d} {slot = slot} m a in omega arith)
 
   pub was_not_ready : Answers (block_refusals d slot) 10 → Ready d slot → ⊥
-  was_not_ready h = go (applies_split (named_refusals d slot) (10 when IsNotReady d slot ∷ []) 10 (h.listed (λ z. omega arith)))
-    where
-      go : Applies (named_refusals d slot) 10 ⊎ Applies (10 when IsNotReady d slot ∷ []) 10 → Ready d slot → ⊥
-      go (inl a) = let s = named_turn {d = d} {slot = slot} 10 a in absurd (omega arith)
-      go (inr (inl (_, off))) = off
-      go (inr (inr a)) = absurd a
+  was_not_ready h = elim (applies_split (named_refusals d slot) (10 when IsNotReady d slot ∷ []) 10 (h.listed (λ z. omega arith))) [
+    | inl a ↦ absurd (omega (arith, named_turn {d = d} {slot = slot} 10 a))
+    | inr a ↦ elim a [ inl off ↦ off.1 | inr h ↦ absurd h ]
+  ]
 
 module _ {d : Dispatcher} {slot : ℕ} {b : Outcome} (B : Blocks d slot b) where
   not_ready_deletes : {r : Outcome} → number_of b.report.answer ≡ 10 → Settles b.dispatcher slot no_task (still_of (Ok tt)) r → Deletes d slot r

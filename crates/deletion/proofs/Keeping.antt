@@ -1,7 +1,7 @@
 -- Delete keeps a dispatcher sound: block does, and afterwards the slot is not ready and can be emptied. And it leaves what block and then delete leave.
 use Prim.Native.Nat.{ℕ, ◌<◌}
 use mathlib.Core.Path.{◌≡◌, refl, sym, ap, ◌∙◌}
-use mathlib.Core.Logic.{◌⊎◌, inl, inr}
+use mathlib.Core.Logic.{inl, inr}
 use mathlib.Core.List.{List}
 use native.Mathlib.Omega.{arith}
 use lib.ListN.{get_or}
@@ -40,14 +40,13 @@ module _ {d : Dispatcher} {slot : ℕ} {r : Outcome} (E : BlocksThenEmpties d sl
   ended_off L S q = ((block_ready L S E.blocks block_done slot).0 q).1 refl
 
 pub delete_keeps : {d : Dispatcher} {slot : ℕ} {r : Outcome} → Shaped d → Sound d → Deletes d slot r → Shaped r.dispatcher × Sound r.dispatcher
-delete_keeps {d} {slot} {r} L S D = promised_keeps (λ x. Shaped x × Sound x) D (L, S) (λ z. go z (ready_or_not d slot))
-  where
-    go : number_of r.report.answer ≡ 0 → Ready d slot ⊎ (Ready d slot → ⊥) → Shaped r.dispatcher × Sound r.dispatcher
-    go z (inl on) =
-        let E = (D.done z).ready on in
-        let k = block_keeps L S E.blocks in
-        rw E.emptied (emptied_keeps k.0 k.1 (called_below d D.answer z) (ended_off E z L S))
-    go z (inr off) = rw ((D.done z).not_ready off).written (emptied_keeps L S (called_below d D.answer z) off)
+delete_keeps {d} {slot} L S D = promised_keeps (λ x. Shaped x × Sound x) D (L, S) (λ z. elim (ready_or_not d slot) [
+  | inl on ↦
+      let E = (D.done z).ready on in
+      let k = block_keeps L S E.blocks in
+      rw E.emptied (emptied_keeps k.0 k.1 (called_below d D.answer z) (ended_off E z L S))
+  | inr off ↦ rw ((D.done z).not_ready off).written (emptied_keeps L S (called_below d D.answer z) off)
+])
 
 -- ---- delete of a ready task is block and then delete
 

@@ -1,7 +1,7 @@
 -- Any two results that the promise of delete allows are the same; delete of a ready task reports as the block; and it stops nobody.
 use Prim.Native.Nat.{ℕ}
 use mathlib.Core.Path.{◌≡◌, sym, ap, ◌∙◌}
-use mathlib.Core.Logic.{◌⊎◌, inl, inr}
+use mathlib.Core.Logic.{inl, inr}
 use native.Mathlib.Decide.{ℕ_discrete}
 use Rattle.dispatcher.specs.Limits.{none}
 use Rattle.dispatcher.specs.Slots.{no_task, Ready}
@@ -27,11 +27,7 @@ ends_same {slot = slot} a b =
     outcome_same (a.reported ∙ ap (λ (o : Outcome). o.report) same ∙ sym b.reported) (a.emptied ∙ ap (λ (o : Outcome). with_task o.dispatcher slot no_task) same ∙ sym b.emptied)
 
 deleted_same : {d : Dispatcher} {slot : ℕ} {r q : Outcome} → r.report.answer ≡ q.report.answer → Deleted d slot r → Deleted d slot q → r ≡ q
-deleted_same {d} {slot} {r} {q} e a b = go (ready_or_not d slot)
-  where
-    go : Ready d slot ⊎ (Ready d slot → ⊥) → r ≡ q
-    go (inl on) = ends_same (a.ready on) (b.ready on)
-    go (inr off) = writes_same e (a.not_ready off) (b.not_ready off)
+deleted_same {d} {slot} e a b = elim (ready_or_not d slot) [ inl on ↦ ends_same (a.ready on) (b.ready on) | inr off ↦ writes_same e (a.not_ready off) (b.not_ready off) ]
 
 pub deletes_same : {d : Dispatcher} {slot : ℕ} {r q : Outcome} → Deletes d slot r → Deletes d slot q → r ≡ q
 deletes_same = promised_same deleted_same
@@ -45,12 +41,10 @@ reports_as_block {d} {slot} {b} q B D = ap (λ (o : Outcome). o.report) (deletes
 
 -- the deleted task is not stopped, nor is another
 pub delete_stops_nobody : {d : Dispatcher} {slot : ℕ} {r : Outcome} → Deletes d slot r → r.report.stopped ≡ none
-delete_stops_nobody {d} {slot} {r} D = go (ℕ_discrete (number_of r.report.answer) 0) (ready_or_not d slot)
+delete_stops_nobody {d} {slot} {r} D = elim (ℕ_discrete (number_of r.report.answer) 0) [
+  | yes z ↦ elim (ready_or_not d slot) [ inl on ↦ let e = (D.done z).ready on in stopped e.reported ∙ block_stops_nobody e.blocks | inr off ↦ stopped ((D.done z).not_ready off).still ]
+  | no z ↦ stopped (D.still z)
+]
   where
     stopped : {p : Report} → r.report ≡ p → r.report.stopped ≡ p.stopped
     stopped e = ap (λ (x : Report). x.stopped) e
-
-    go : Dec (number_of r.report.answer ≡ 0) → Ready d slot ⊎ (Ready d slot → ⊥) → r.report.stopped ≡ none
-    go (yes z) (inl on) = let e = (D.done z).ready on in stopped e.reported ∙ block_stops_nobody e.blocks
-    go (yes z) (inr off) = stopped ((D.done z).not_ready off).still
-    go (no z) q = stopped (D.still z)

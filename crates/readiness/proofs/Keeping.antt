@@ -45,11 +45,7 @@ use Rattle.shifting.specs.Arriving.{ArrivesIn}
 -- what held before it, and holds after it where it is done, holds after it
 pub promised_keeps : {rs : List Refusal} {d : Dispatcher} {Does : Outcome → Type 0} {r : Outcome} (P : Dispatcher → Type 0) → Promised rs d Does r → P d
     → (number_of r.report.answer ≡ 0 → P r.dispatcher) → P r.dispatcher
-promised_keeps {r = r} P h before done = go (ℕ_discrete (number_of r.report.answer) 0)
-  where
-    go : Dec (number_of r.report.answer ≡ 0) → P r.dispatcher
-    go (yes z) = done z
-    go (no z) = rw (h.kept z) before
+promised_keeps {r = r} P h before done = elim (ℕ_discrete (number_of r.report.answer) 0) [ yes z ↦ done z | no z ↦ rw (h.kept z) before ]
 
 -- from the seats of d, x keeps demand 2, and demand 3 with so many moves
 abbrev pub Rule : Dispatcher → Dispatcher → ℕ → Type 0
@@ -88,11 +84,10 @@ module _ {d : Dispatcher} {slot : ℕ} (L : Shaped d) (S : Sound d) (below : slo
       rw W.rest (reseated_keeps r.dispatcher.seats k.0, reseated_least r.dispatcher.seats k.1)
 
   woken_ready : {r : Outcome} → Woken d slot r → (t : ℕ) → Ready r.dispatcher t ↔ (Ready d t ⊎ (t ≡ slot))
-  woken_ready {r} W t = rw W.rest ((λ q. joins.only t (ready_before (joined_of d slot) r.dispatcher.seats q)), λ q. reseated_ready r.dispatcher.seats (back q))
-    where
-      back : Ready d t ⊎ (t ≡ slot) → Ready (joined_of d slot) t
-      back (inl q) = joins.old t q
-      back (inr e) = rw e joins.new
+  woken_ready {r} W t = rw W.rest (
+    (λ q. joins.only t (ready_before (joined_of d slot) r.dispatcher.seats q)),
+    λ q. reseated_ready r.dispatcher.seats (elim q [ inl old ↦ joins.old t old | inr e ↦ rw e joins.new ]),
+  )
 
 -- ---- a wake
 
@@ -186,51 +181,33 @@ module _ {d : Dispatcher} {slot z : ℕ} {r : Outcome} (L : Shaped d) (S : Sound
 module _ {d : Dispatcher} {slot : ℕ} {r : Outcome} (B : Blocks d slot r) where
   -- who is blocked ran on some core, or waited
   ran_or_waited : number_of r.report.answer ≡ 0 → Runs d slot ⊎ Waits d slot
-  ran_or_waited y = go (runs_dec d.cores none (seat_at d) slot)
-    where
-      go : Runs d slot ⊎ (Runs d slot → ⊥) → Runs d slot ⊎ Waits d slot
-      go (inl on) = inl on
-      go (inr off) = inr (record { ready = block_was B y; off = off })
+  ran_or_waited y = elim (runs_dec d.cores none (seat_at d) slot) [ inl on ↦ inl on | inr off ↦ inr (record { ready = block_was B y; off = off }) ]
 
   -- every slot keeps its task
   pub block_tasks : number_of r.report.answer ≡ 0 → r.dispatcher.tasks ≡ d.tasks
-  block_tasks y = go (ran_or_waited y)
-    where
-      go : Runs d slot ⊎ Waits d slot → r.dispatcher.tasks ≡ d.tasks
-      go (inl on) = ap (λ (x : Dispatcher). x.tasks) ((B.done y).ran on.core on.below on.sits).rest
-      go (inr w) = ap (λ (x : Dispatcher). x.tasks) ((B.done y).waited w).0
+  block_tasks y = elim (ran_or_waited y) [ inl on ↦ ap (λ (x : Dispatcher). x.tasks) ((B.done y).ran on.core on.below on.sits).rest | inr w ↦ ap (λ (x : Dispatcher). x.tasks) ((B.done y).waited w).0 ]
 
   pub block_stops_nobody : r.report.stopped ≡ none
-  block_stops_nobody = go (ℕ_discrete (number_of r.report.answer) 0)
-    where
-      done : (y : number_of r.report.answer ≡ 0) → Runs d slot ⊎ Waits d slot → r.report.stopped ≡ none
-      done y (inl on) = ((B.done y).ran on.core on.below on.sits).stops
-      done y (inr w) = ap (λ (x : Report). x.stopped) ((B.done y).waited w).1
-
-      go : Dec (number_of r.report.answer ≡ 0) → r.report.stopped ≡ none
-      go (yes y) = done y (ran_or_waited y)
-      go (no n) = ap (λ (x : Report). x.stopped) (B.still n)
+  block_stops_nobody = elim (ℕ_discrete (number_of r.report.answer) 0) [
+    | yes y ↦ elim (ran_or_waited y) [ inl on ↦ ((B.done y).ran on.core on.below on.sits).stops | inr w ↦ ap (λ (x : Report). x.stopped) ((B.done y).waited w).1 ]
+    | no n ↦ ap (λ (x : Report). x.stopped) (B.still n)
+  ]
 
 module _ {d : Dispatcher} {slot : ℕ} {r : Outcome} (L : Shaped d) (S : Sound d) (B : Blocks d slot r) where
   pub block_keeps : Shaped r.dispatcher × Sound r.dispatcher
-  block_keeps = promised_keeps (λ x. Shaped x × Sound x) B (L, S) (λ y. done y (ran_or_waited B y))
-    where
-      done : (y : number_of r.report.answer ≡ 0) → Runs d slot ⊎ Waits d slot → Shaped r.dispatcher × Sound r.dispatcher
-      done y (inl on) =
-          let f = freed_sound L S on.real on.below on.sits in
-          refills_keeps f.0 f.1 ((B.done y).ran on.core on.below on.sits)
-      done y (inr w) = rw ((B.done y).waited w).0 (waited_keeps L S w)
+  block_keeps = promised_keeps (λ x. Shaped x × Sound x) B (L, S) (λ y. elim (ran_or_waited B y) [
+    | inl on ↦ let f = freed_sound L S on.real on.below on.sits in refills_keeps f.0 f.1 ((B.done y).ran on.core on.below on.sits)
+    | inr w ↦ rw ((B.done y).waited w).0 (waited_keeps L S w)
+  ])
 
   pub block_ready : number_of r.report.answer ≡ 0 → (t : ℕ) → Ready r.dispatcher t ↔ (Ready d t × (t ≢ slot))
-  block_ready y t = go (ran_or_waited B y)
-    where
-      go : Runs d slot ⊎ Waits d slot → Ready r.dispatcher t ↔ (Ready d t × (t ≢ slot))
-      go (inl on) = rw ((B.done y).ran on.core on.below on.sits).rest (gone_ready slot L S r.dispatcher.seats t)
-      go (inr w) = rw ((B.done y).waited w).0 (gone_ready slot L S d.seats t)
+  block_ready y t = elim (ran_or_waited B y) [
+    | inl on ↦ rw ((B.done y).ran on.core on.below on.sits).rest (gone_ready slot L S r.dispatcher.seats t)
+    | inr w ↦ rw ((B.done y).waited w).0 (gone_ready slot L S d.seats t)
+  ]
 
 pub block_rule : {d : Dispatcher} {slot : ℕ} {r : Outcome} → Shaped d → Sound d → KeepsIn d (seat_at d) → Blocks d slot r → Ruled d r
-block_rule {d} {slot} {r} L S K B = promised_rule B K (λ y. done y (ran_or_waited B y))
-  where
-    done : (y : number_of r.report.answer ≡ 0) → Runs d slot ⊎ Waits d slot → Rule d r.dispatcher r.report.moves
-    done y (inl on) = ran_rule L S on.below on.sits ((B.done y).ran on.core on.below on.sits) (block_was B y) K
-    done y (inr w) = let f = (B.done y).waited w in rw (f.0, f.1) (waited_rule L S w K)
+block_rule L S K B = promised_rule B K (λ y. elim (ran_or_waited B y) [
+  | inl on ↦ ran_rule L S on.below on.sits ((B.done y).ran on.core on.below on.sits) (block_was B y) K
+  | inr w ↦ let f = (B.done y).waited w in rw (f.0, f.1) (waited_rule L S w K)
+])

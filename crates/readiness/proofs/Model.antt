@@ -74,13 +74,10 @@ refused_or a d done = cond (eqb (number_of a) 0) done (record { report = still_o
 
 refused_or_lem : {rs : List Refusal} {d : Dispatcher} {Does : Outcome → Type 0} (a : Answer) (o : Outcome) → Answered rs d a → (number_of a ≡ 0 → (number_of o.report.answer ≡ 0) × Does o)
     → Promised rs d Does (refused_or a d o)
-refused_or_lem {rs} {d} {Does} a o h does = go (ℕ_discrete (number_of a) 0)
-  where
-    go : Dec (number_of a ≡ 0) → Promised rs d Does (refused_or a d o)
-    go (yes z) =
-        let k = does z in
-        rw (eq-eqb (number_of a) 0 z) (accepted (rw z at h.answer) k.0 k.1)
-    go (no n) = rw (ne_eqb (number_of a) 0 n) (refused a h n refl)
+refused_or_lem a o h does = elim (ℕ_discrete (number_of a) 0) [
+  | yes z ↦ let k = does z in rw (eq-eqb (number_of a) 0 z) (accepted (rw z at h.answer) k.0 k.1)
+  | no n ↦ rw (ne_eqb (number_of a) 0 n) (refused a h n refl)
+]
 
 -- ---- wake
 

@@ -1,7 +1,6 @@
 -- A dispatcher with other seats: the same tasks are ready, and it is sound if the seats are a legal seating of them.
 use Prim.Native.Nat.{ℕ, ◌≤◌, ◌<◌}
 use mathlib.Core.Path.{◌≡◌, refl, sym, ◌∙◌}
-use mathlib.Core.Logic.{◌≢◌}
 use mathlib.Core.List.{List}
 use native.Mathlib.Decide.{dec_lt}
 use native.Mathlib.Omega.{arith}
@@ -10,7 +9,7 @@ use Rattle.seating.specs.Strong.{Legal}
 use Rattle.seating.proofs.Rules.{keeps_agree}
 use Rattle.dispatcher.specs.Limits.{core_limit, none}
 use Rattle.dispatcher.specs.Slots.{seat_at, Ready, Shaped}
-use Rattle.dispatcher.specs.Sound.{Seated, Sound}
+use Rattle.dispatcher.specs.Sound.{Sound}
 use Rattle.dispatcher.specs.declared.Dispatcher.{Dispatcher}
 use Rattle.dispatcher.proofs.Ready.{ready_alike}
 use Rattle.shifting.specs.Board.{may_run, with_seats}
@@ -43,16 +42,15 @@ reseated_sound {d} l S G idle = record {
   slots = S.slots;
   order = λ k h o. let e = S.order k h o in record { slot = e.slot; used = e.used; not_twice = e.not_twice; no_gap = e.no_gap };
   missing = idle;
-  seats = λ c h o. go c h o (dec_lt c d.cores);
-}
-  where
-    go : (c : ℕ) → c < core_limit → get_or l c none ≢ none → Dec (c < d.cores) → Seated (with_seats d l) c
-    go c h o (yes b) = record {
+  seats = λ c h o. elim (dec_lt c d.cores) [
+    | yes b ↦ record {
       ready = reseated_ready l (G.ready c b o);
       once = λ j k e. let same : c ≡ j = G.once c j b (omega arith) o (sym e) in omega arith;
       allowed = G.allowed c b o;
     }
-    go c h o (no b) = absurd (o (idle c h (omega arith)))
+    | no b ↦ absurd (o (idle c h (omega arith)))
+  ];
+}
 
 -- x is e with other seats
 pub reseated : (e : Dispatcher) {x : Dispatcher} → Shaped e → Sound e → x ≡ with_seats e x.seats → length x.seats ≡ length e.seats

@@ -1,7 +1,7 @@
 -- Any two results that the promise of wake, or of block, allows are the same.
 use Prim.Native.Nat.{ℕ}
 use mathlib.Core.Path.{◌≡◌, sym, ap, ◌∙◌}
-use mathlib.Core.Logic.{◌⊎◌, inl, inr}
+use mathlib.Core.Logic.{inl, inr}
 use lib.ListN.{length}
 use lib.Seq.{ext_get_or}
 use Rattle.seating.proofs.Same.{runs_dec}
@@ -17,7 +17,7 @@ use Rattle.dispatcher.specs.declared.Outcome.{Outcome}
 use Rattle.dispatcher.proofs.Same.{outcome_same, promised_same}
 use Rattle.order.specs.Changes.{joined_of}
 use Rattle.order.proofs.Ranking.{before_not_back}
-use Rattle.shifting.specs.Board.{Runs, with_seats}
+use Rattle.shifting.specs.Board.{with_seats}
 use Rattle.readiness.specs.Wake.{Woken, Wakes}
 use Rattle.readiness.specs.Block.{Refills, Blocked, block_refusals, Blocks}
 use Rattle.readiness.proofs.Turning.{blocked_ready}
@@ -50,14 +50,13 @@ refills_same {d} {z} e a b =
 
 -- a ready slot runs or waits
 blocked_same : {d : Dispatcher} {slot : ℕ} {r q : Outcome} → Ready d slot → r.report.answer ≡ q.report.answer → Blocked d slot r → Blocked d slot q → r ≡ q
-blocked_same {d} {slot} {r} {q} ready e a b = go (runs_dec d.cores none (seat_at d) slot)
-  where
-    go : Runs d slot ⊎ (Runs d slot → ⊥) → r ≡ q
-    go (inl on) = refills_same e (a.ran on.core on.below on.sits) (b.ran on.core on.below on.sits)
-    go (inr off) =
-        let f = a.waited (record { ready = ready; off = off }) in
-        let g = b.waited (record { ready = ready; off = off }) in
-        outcome_same (f.1 ∙ ap still_of e ∙ sym g.1) (f.0 ∙ sym g.0)
+blocked_same {d} {slot} ready e a b = elim (runs_dec d.cores none (seat_at d) slot) [
+  | inl on ↦ refills_same e (a.ran on.core on.below on.sits) (b.ran on.core on.below on.sits)
+  | inr off ↦
+      let f = a.waited (record { ready = ready; off = off }) in
+      let g = b.waited (record { ready = ready; off = off }) in
+      outcome_same (f.1 ∙ ap still_of e ∙ sym g.1) (f.0 ∙ sym g.0)
+]
 
 -- where a block is done, the slot was ready
 pub block_was : {d : Dispatcher} {slot : ℕ} {r : Outcome} → Blocks d slot r → number_of r.report.answer ≡ 0 → Ready d slot
