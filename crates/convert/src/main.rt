@@ -13,7 +13,6 @@ ghost use Rattle.cpulists.specs.Promise.{ReadsList};
 ghost use Rattle.cpumasks.specs.Mask.{words_of, MaskOf};
 ghost use Rattle.cpumasks.specs.Promise.{ReadsMask};
 ghost use Rattle.convert.specs.Turn.{LineOf, Turns};
-ghost use Rattle.convert.specs.Window.{PrintsWithin, HoldsWithin};
 ghost use Rattle.cpulists.proofs.Back.{faultless_below as list_below};
 ghost use Rattle.cpulists.proofs.Room.{list_room_lem};
 ghost use Rattle.cpumasks.proofs.Back.{faultless_below as mask_below};
@@ -133,78 +132,89 @@ fn print_line<From: Format, To: Format>(
     rt.write_all(&line).map_err(Stop::Output)
 }
 
-// Prints what each line gives that has its newline, and tells where the last of them ends. Among the first bytes, as many as were held back, there is none.
-fn print_lines<From: Format, To: Format>(
-    rt: &impl Print,
-    bytes: &[u8],
+// The bytes that were read and whose lines are still to be printed. Memory is fixed, so they are lent. Those at the start are held back, of a line whose
+// newline has not come.
+#[derive(Drop)]
+struct Window<'a> {
+    bytes: &'a mut [u8],
     held: usize,
-    limit: u8,
-) -> Result<usize, Stop>
-    requires { held ≤ length bytes.now }
-    ensures { PrintsWithin bytes.now result }
-{
-    let Some(last) = bytes[held..].iter().rposition(|c| *c == b'\n') else {
-        return Ok(0);
-    };
-    let end = held + last;
-    for line in bytes[..end].split(|c| *c == b'\n') {
-        print_line::<From, To>(rt, line, limit)?;
-    }
-    Ok(end + 1)
+    ghost has_room: { held < length bytes.now },
 }
 
-// Moves the bytes between two places, a line that has begun, to the window's start, and tells how many they are. One that fills the window is too long, and
-// the lines after it are left too: where one is left out, what we print no longer stands line by line beside what we read.
-fn hold(window: &mut [u8], from: usize, to: usize) -> Result<usize, Stop>
-    requires { (from ≤ to) × (to ≤ length window.old) }
-    ensures { IfOk result (λ held. held < length window.new) }
-{
-    window.copy_within(from..to, 0);
-    let held = to - from;
-    if held == window.len() {
-        return Err(Stop::LineLong);
-    }
-    Ok(held)
-}
-
-// Reads once, and tells how many bytes at the window's start are held back, of a line whose newline has not come. At the input's end they are the last line,
-// and there is nothing more to tell. Memory is fixed, so the window is lent, and its count stands beside it: a value with both would be copied whole.
-fn read_on<From: Format, To: Format>(
-    rt: &impl Print,
-    input: &mut impl Read,
-    window: &mut [u8],
-    held: usize,
-    limit: u8,
-) -> Result<Option<usize>, Stop>
-    requires { held < length window.old }
-    ensures { HoldsWithin window.new result }
-{
-    let more = input.read(&mut window[held..]).map_err(Stop::Input)?;
-    if more == 0 {
-        if 0 < held {
-            print_line::<From, To>(rt, &window[..held], limit)?;
+impl Window<'_> {
+    // Prints what each line gives that has its newline, and tells where the last of them ends. Among the bytes that are held back there is none.
+    fn print_lines<From: Format, To: Format>(
+        &self,
+        rt: &impl Print,
+        filled: usize,
+        limit: u8,
+    ) -> Result<usize, Stop>
+        requires { (self.now.held ≤ filled) × (filled ≤ length self.now.bytes.now) }
+        ensures { IfOk result (λ n. n ≤ filled) }
+    {
+        let Some(last) = self.bytes[self.held..filled]
+            .iter()
+            .rposition(|c| *c == b'\n')
+        else {
+            return Ok(0);
+        };
+        let end = self.held + last;
+        for line in self.bytes[..end].split(|c| *c == b'\n') {
+            print_line::<From, To>(rt, line, limit)?;
         }
-        return Ok(None);
+        Ok(end + 1)
     }
-    let filled = held + more;
-    let from = print_lines::<From, To>(rt, &window[..filled], held, limit)?;
-    Ok(Some(hold(window, from, filled)?))
+
+    // Holds back the bytes between two places, a line that has begun: moves them to the start. One that fills the window is too long, and the lines after it
+    // are left too: where one is left out, what we print no longer stands line by line beside what we read.
+    fn hold(&mut self, from: usize, to: usize) -> Result<(), Stop>
+        requires { (from ≤ to) × (to ≤ length self.old.bytes.now) }
+    {
+        self.bytes.copy_within(from..to, 0);
+        let held = to - from;
+        if held == self.bytes.len() {
+            return Err(Stop::LineLong);
+        }
+        self.held = held;
+        Ok(())
+    }
+
+    // Reads once, and tells whether the input goes on. At its end the bytes that are held back are the last line.
+    fn read_on<From: Format, To: Format>(
+        &mut self,
+        rt: &impl Print,
+        input: &mut impl Read,
+        limit: u8,
+    ) -> Result<bool, Stop> {
+        let more = input
+            .read(&mut self.bytes[self.held..])
+            .map_err(Stop::Input)?;
+        if more == 0 {
+            if 0 < self.held {
+                print_line::<From, To>(rt, &self.bytes[..self.held], limit)?;
+            }
+            return Ok(false);
+        }
+        let filled = self.held + more;
+        let from = self.print_lines::<From, To>(rt, filled, limit)?;
+        self.hold(from, filled)?;
+        Ok(true)
+    }
 }
 
 // Reads on until the input ends. A proved loop has to end, and nothing says that the input does: so it takes its turns from a range that no run uses up.
 fn read_to_end<From: Format, To: Format>(
     rt: &impl Print,
     input: &mut impl Read,
-    window: &mut [u8],
+    bytes: &mut [u8],
     limit: u8,
 ) -> Result<(), Stop>
-    requires { 0 < length window.old }
+    requires { 0 < length bytes.old }
 {
-    let mut held: usize = 0;
+    let mut window = Window { bytes, held: 0 };
     for _ in 0..u64::MAX {
-        match read_on::<From, To>(rt, input, window, held, limit)? {
-            Some(n) => held = n,
-            None => break,
+        if !window.read_on::<From, To>(rt, input, limit)? {
+            break;
         }
     }
     Ok(())
