@@ -110,6 +110,7 @@ fn print_day(rt: &impl Print, file: &[u8], layout: Layout) -> io::Result<()>
             break;
         };
         d = stepped.dispatcher;
+        // No comparison is refused: a day's dispatcher is sound (`day_agrees`).
         let differs = engine::compare(d).unwrap_or(None);
         rt.write_all(&line[..stepped.length])?;
         rt.print(Verdict { differs })?;

@@ -9,6 +9,8 @@ use native.Mathlib.Omega.{arith}
 use lib.ListN.{length, drop, length-append, length-drop}
 use Rattle.std.specs.Prelude.{Option, Some, None, Result, Ok, Err}
 use Rattle.laws.specs.Answering.{Applies}
+use Rattle.dispatcher.specs.Limits.{core_limit}
+use Rattle.dispatcher.specs.Sound.{Sound}
 use Rattle.dispatcher.specs.Answers.{Answer}
 use Rattle.dispatcher.specs.declared.Refusal.{Refusal}
 use Rattle.dispatcher.specs.declared.Dispatcher.{Dispatcher}
@@ -17,6 +19,7 @@ use Rattle.dispatcher.proofs.Unsound.{sound_own}
 use Rattle.dispatcher.proofs.Same.{refusal_positive}
 use Rattle.lines.specs.Line.{IsLineKind, text_refusals, line_refusals}
 use Rattle.lines.specs.declared.Line.{Line}
+use Rattle.lines.proofs.Longest.{Wide, line_longest}
 use Rattle.lines.proofs.Same.{writes_same}
 use Rattle.calls.specs.Call.{Call, create, delete, load, wake, block, Does}
 use Rattle.calls.proofs.Calling.{does_same}
@@ -26,7 +29,7 @@ use Rattle.days.specs.declared.Stepped.{Stepped}
 use Rattle.days.specs.declared.Replayed.{Replayed}
 use Rattle.days.specs.Calls.{CallAt, call_of, ReadsCall}
 use Rattle.days.specs.Step.{kind_of, line_of, Told, Steps}
-use Rattle.days.specs.Replay.{LineAt, Prints, stop_of, Stops, Replays}
+use Rattle.days.specs.Replay.{LineAt, Short, Prints, stop_of, Stops, Replays}
 use Rattle.days.proofs.Calling.{call_same}
 
 -- ---- the call that is read
@@ -56,6 +59,13 @@ reads_call_same b k None None x y = refl
 
 made_same : (b : List ℕ) (k : ℕ) (d : Dispatcher) (c e : Call) {o p : Outcome} → CallAt b k c → CallAt b k e → Does c d o → Does e d p → (c ≡ e) × (o ≡ p)
 made_same b k d c e at bt x y = let same = call_same b k c e at bt in (same, does_same c d x (rw same y))
+
+-- where a call has a line of its fields' widths, no other line can be there
+pub short_of : {b : List ℕ} {k : ℕ} {d : Dispatcher} (c : Call) (o : Outcome) → CallAt b k c → Does c d o → Wide (line_of k c o) → length o.dispatcher.seats ≡ core_limit → Short b k d
+short_of {b} {k} {d} c o at does wide seats p t x =
+    let same = made_same b k d x.call c x.at at x.does does in
+    let sound : Sound o.dispatcher = rw same.1 at x.sound in
+    rw (x.text, same.0, same.1) (line_longest (line_of k c o) o.dispatcher wide sound seats)
 
 told_same : (line : Line) (made : Outcome) (before : List ℕ) {after after' : List ℕ} (r q : Result (Option Stepped) Refusal)
     → Told line made before after r → Told line made before after' q → (r ≡ q) × (after ≡ after')

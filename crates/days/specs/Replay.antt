@@ -24,6 +24,10 @@ pub record LineAt (b : List ℕ) (k : ℕ) (d : Dispatcher) (o : Outcome) (t : L
   pub sound : Sound o.dispatcher
   pub text : t ≡ text_of (line_of k call o) o.dispatcher
 
+-- no line of call k on d has more bytes than a line can have
+abbrev pub Short : List ℕ → ℕ → Dispatcher → Type 0
+Short b k d = (o : Outcome) (t : List ℕ) → LineAt b k d o t → length t ≤ 231
+
 -- n calls of the file, from call k on, are made one after the other from d: they leave e, and t is their lines
 abbrev pub Prints : List ℕ → ℕ → Dispatcher → ℕ → Dispatcher → List ℕ → Type 0
 Prints b k d zero e t = (e ≡ d) × (t ≡ [])

@@ -7,7 +7,6 @@ use Rattle.dispatcher.specs.declared.Dispatcher.{Dispatcher}
 use Rattle.dispatcher.specs.declared.Outcome.{Outcome}
 use Rattle.lines.specs.Line.{Writes}
 use Rattle.lines.specs.declared.Line.{Line}
-use Rattle.lines.proofs.Longest.{Wide}
 use Rattle.calls.specs.Call.{Call, create, delete, load, wake, block, Does}
 use Rattle.days.specs.declared.Stepped.{Stepped}
 use Rattle.days.specs.Calls.{CallAt, HasNoCall}
@@ -46,7 +45,6 @@ pub record Tells (b : List ℕ) (k : ℕ) (d : Dispatcher) (before after : List 
   pub at : CallAt b k call
   pub outcome : Outcome
   pub does : Does call d outcome
-  pub wide : Wide (line_of k call outcome)
   pub told : Told (line_of k call outcome) outcome before after r
 
 -- where the file has no such call nothing is written

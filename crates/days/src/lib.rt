@@ -9,7 +9,7 @@ ghost use Rattle.files.specs.Layout.{record_count_of};
 ghost use Rattle.calls.specs.Call.{Does};
 ghost use Rattle.days.specs.Calls.{call_of, event_call_of, ReadsCall};
 ghost use Rattle.days.specs.Step.{kind_of, slot_of, Steps};
-ghost use Rattle.days.specs.Replay.{Replays};
+ghost use Rattle.days.specs.Replay.{Short, Replays};
 ghost use Rattle.days.specs.Telling.{HearsDay, Fails};
 
 use arrayvec::ArrayVec;
@@ -115,7 +115,8 @@ pub fn step(
     d: Dispatcher,
     buffer: &mut [u8],
 ) -> Result<Option<Stepped>, Refusal>
-    ensures { Steps file.now k d buffer.old buffer.new result }
+    ensures steps { Steps file.now k d buffer.old buffer.new result }
+    ensures short { Short file.now k d }
 {
     let Some(call) = call(file, k) else {
         return Ok(None);
@@ -136,7 +137,8 @@ pub fn step(
 
 // Makes the calls from k on, as long as their lines fit into the buffer.
 pub fn replay(file: &[u8], k: usize, d: Dispatcher, buffer: &mut [u8]) -> Replayed
-    ensures { Replays file.now k d buffer.old buffer.new result }
+    ensures replays { Replays file.now k d buffer.old buffer.new result }
+    ensures short { Short file.now result.next result.dispatcher }
 {
     let mut next = k;
     let mut length = 0;
@@ -172,7 +174,7 @@ pub fn tell<E, F: FnMut(&[u8]) -> Result<(), E>>(
 ) -> Result<(), E>
     requires callable { F.IsAlwaysCallable hear }
     requires layout { Reads file.now (Ok layout) }
-    ensures { MatchResult result (λ done. HearsDay F.FnMut hear file.now) (Fails F.FnMut hear) }
+    ensures { MatchResult result (λ done. HearsDay F.FnMut hear file.now) (Fails F.FnMut hear file.now) }
 {
     let calls = layout.records + layout.events;
     let mut block = [0u8; BLOCK];
