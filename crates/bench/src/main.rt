@@ -104,7 +104,7 @@ fn print_day(rt: &impl Print, file: &[u8], layout: Layout) -> io::Result<()>
         first: None,
     };
     for k in 0..calls {
-        // A line has room whatever its numbers are.
+        // Lent to the step, whose promise names the bytes; a line has room whatever its numbers are.
         let mut line = [0u8; Line::LONGEST];
         let Ok(Some(stepped)) = days::step(file, k, d, &mut line) else {
             break;

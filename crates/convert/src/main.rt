@@ -95,6 +95,7 @@ fn put_set<To: Format>(line: &mut ArrayVec<u8, ROOM>, set: u64, limit: u8)
     requires below { NamesMissing (cores_of limit) set → ⊥ }
     ensures { LineOf (To.TextOut (cores_of limit) set) line.new.items }
 {
+    // The writers put a text into lent bytes, as C has it.
     let mut text = [0u8; ROOM];
     let length = To::write(set, limit, &mut text).unwrap();
     texts::put(line, &text[..length]);

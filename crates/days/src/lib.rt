@@ -27,7 +27,7 @@ pub enum FileCall {
 }
 
 impl FileCall {
-    // What an event asks for.
+    // What an event asks for. One of another kind asks for nothing and is no error, so this is no TryFrom.
     fn of_event(event: FileEvent) -> Option<FileCall>
         ensures { result ≡ event_call_of event.kind event.slot }
     {
@@ -73,7 +73,7 @@ impl FileCall {
     }
 }
 
-// What a step wrote, and the dispatcher after its call.
+// How much a step wrote into the bytes that it was lent, as its promise names them, and the dispatcher after its call.
 #[derive(Clone, Copy, Debug, PartialEq, Eq)]
 pub struct Stepped {
     pub length: usize,
@@ -177,6 +177,7 @@ pub fn tell<E, F: FnMut(&[u8]) -> Result<(), E>>(
     ensures { MatchResult result (λ done. HearsDay F.FnMut hear file.now) (Fails F.FnMut hear file.now) }
 {
     let calls = layout.records + layout.events;
+    // Lent to `replay`, whose promise names the bytes and how many of them are lines.
     let mut block = [0u8; BLOCK];
     let mut next = 0;
     let mut current = Dispatcher::fresh(layout.cores).dispatcher;

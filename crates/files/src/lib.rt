@@ -19,13 +19,14 @@ pub struct Layout {
     pub events: usize,
 }
 
-// Why a file is refused, and at which of its bytes.
+// Why a file is refused, and at which of its bytes. cpusets has such a pair of its own refusals: neither crate stands on the other, and two fields make no third.
 #[derive(Clone, Copy, Debug, PartialEq, Eq)]
 pub struct Fault {
     pub refusal: Refusal,
     pub offset: usize,
 }
 
+// An event as the file has it: its kind stays a byte, since C is told any byte that stands there.
 #[derive(Clone, Copy, Debug, PartialEq, Eq)]
 pub struct FileEvent {
     pub kind: u8,

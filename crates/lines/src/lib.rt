@@ -10,7 +10,7 @@ ghost use Rattle.lines.specs.Line.{IsLineKind, Writes, WritesFault};
 use arrayvec::ArrayVec;
 use dispatcher::{Dispatcher, PlainReport, Refusal};
 
-// What a line says besides the seats. The kind is 0 to 3 for create, wake, block, delete.
+// What a line says besides the seats. The kind is 0 to 3 for create, wake, block, delete, a byte as C has it.
 #[repr(C)]
 #[derive(Clone, Copy)]
 pub struct Line {

@@ -54,6 +54,7 @@ pub struct PlainLayout {
     pub offset: usize,
 }
 
+// An Option for C: where the file has no such record found is false and all else 0.
 #[repr(C)]
 #[derive(Clone, Copy)]
 pub struct PlainRecord {
@@ -63,6 +64,7 @@ pub struct PlainRecord {
     pub mask: u32,
 }
 
+// Likewise; the kind is the byte in the file.
 #[repr(C)]
 #[derive(Clone, Copy)]
 pub struct PlainEvent {
@@ -71,6 +73,7 @@ pub struct PlainEvent {
     pub slot: u16,
 }
 
+// A Result for C: the length of what stands in the lent buffer, or a number and a place.
 #[repr(C)]
 #[derive(Clone, Copy)]
 pub struct PlainWritten {

@@ -30,14 +30,15 @@ fn block_answer(d: Dispatcher, slot: u16) -> Answer
     Ok(())
 }
 
-// The core on which the slot sits.
+// The core on which the slot sits. The wake order is searched so too: the library's `position`, and in each place its own promise.
 fn core_of(seats: &[u16; Dispatcher::CORES], slot: u16) -> Option<usize>
     ensures { CoreOf seats.now slot result }
 {
     seats.iter().position(|sits| *sits == slot)
 }
 
-// The dispatcher after a shift, and what is reported of it. Inlined, so that no copy of the dispatcher is made for the call.
+// The dispatcher after a shift, and what is reported of it: no From makes the report, since both types are other crates'. Inlined, so that
+// no copy of the dispatcher is made for the call.
 #[inline(always)]
 fn shifted(mut d: Dispatcher, shift: Shift) -> Outcome
     ensures { result ≡ shifted_of d shift }

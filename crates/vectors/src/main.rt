@@ -31,6 +31,7 @@ fn agrees(file: &[u8], layout: Layout) -> bool
 {
     let mut d = Dispatcher::fresh(layout.cores).dispatcher;
     for k in 0..layout.records + layout.events {
+        // Lent to the step, whose promise names the bytes.
         let mut line = [0u8; Line::LONGEST];
         let Ok(Some(stepped)) = days::step(file, k, d, &mut line) else {
             return false;
