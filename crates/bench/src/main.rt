@@ -129,6 +129,7 @@ fn print(rt: &impl Print, file: &[u8]) -> io::Result<()> {
     }
 }
 
+// As replay begins and ends: one function of both would be passed what each prints, and be no shorter.
 fn main(rt: HostRuntime) {
     let mut file = files::room();
     let n = match host::read_full(&mut rt.stdin(), &mut file) {

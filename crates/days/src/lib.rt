@@ -80,6 +80,7 @@ pub struct Stepped {
     pub dispatcher: Dispatcher,
 }
 
+// How far a replay went; `length` is how much it wrote into the bytes that it was lent, as its promise names them.
 #[derive(Clone, Copy, Debug, PartialEq, Eq)]
 pub struct Replayed {
     // Why no further line was written: Ok where the file has no further call.

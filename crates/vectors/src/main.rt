@@ -61,7 +61,7 @@ fn right_lines(file: &[u8], stored: &mut impl Read) -> bool {
     }
 }
 
-// The file, if its name is text and it can be opened.
+// The file, if its name is text and it can be opened. unsound opens its files by the same two lines, whose outcome no contract can name.
 fn open<R: Files>(files: &R, name: &[u8]) -> Option<R::File> {
     let path = str::from_utf8(name).ok()?;
     fs::open(files, path).ok()
