@@ -1,5 +1,5 @@
 -- The chain that the search takes by what is near: how it grows, and that it is the chosen one.
-use Rattle.std.proofs.Common.{ℕ, suc, ◌+◌, ◌-◌, ◌≤◌, ◌<◌, ◌≡◌, refl, sym, ap, ◌∙◌, Bool, true, List, [], ◌∷◌, ◌++◌, append-nil, append_assoc, arith, bit_and, leb, length, length-append, leb-true, le-leb, zero, All, add-one, get_or, ◌≢◌}
+use Rattle.std.proofs.Common.{ℕ, suc, ◌+◌, ◌-◌, ◌≤◌, ◌<◌, ◌≡◌, refl, sym, ap, ◌∙◌, Bool, true, List, [], ◌∷◌, ◌++◌, append-nil, append_assoc, arith, bit_and, leb, length, take, length-append, leb-true, le-leb, zero, All, add-one, get_or, ◌≢◌}
 use Rattle.laws.proofs.Deciding.{clash}
 use Rattle.masks.specs.Masks.{width, has}
 use Rattle.masks.proofs.Bits.{has_zero}
@@ -8,7 +8,7 @@ use Rattle.seating.specs.Chosen.{Unreached}
 use Rattle.seating.proofs.Near.{lowest, Levels, lowest_in, missed_exact, walk, next_facts, Graph, levels_chosen, levels_none, exact_below}
 use Rattle.search.specs.Sitters.{mask_on, leads}
 use Rattle.search.specs.Route.{route_of, Found, Nowhere}
-use Rattle.search.specs.Taken.{ChainCores}
+use Rattle.search.specs.Taken.{ChainCores, Spelled}
 use Rattle.search.specs.Marks.{farthest, mark, within}
 use Rattle.search.specs.Distances.{Complete, Distances}
 use Rattle.search.specs.Ready.{Ready}
@@ -74,6 +74,10 @@ module _ {n : ℕ} {masks : List ℕ} {N : ℕ → ℕ → Bool} {route cores : 
 
       walked : cores ++ d ∷ walk n (leads masks) N (k - 1) d ≡ route
       walked = rw e (rw one_less at W.joined)
+
+-- there is a place for one core more
+pub room : {n : ℕ} {masks : List ℕ} {N : ℕ → ℕ → Bool} {route cores : List ℕ} {len mask k : ℕ} → Going n masks N route (take len cores) mask k → 0 < k → n ≤ width → Spelled cores len → len < width
+room W some few S = omega (arith, W.total, S.size)
 
 pub going_end : {n : ℕ} {masks : List ℕ} {N : ℕ → ℕ → Bool} {route cores : List ℕ} {mask k : ℕ} → Going n masks N route cores mask k → k ≤ 0 → cores ≡ route
 going_end {cores = cores} {k = k} W l = sym (append-nil cores) ∙ (rw none at W.joined)

@@ -1,4 +1,5 @@
 mod Gathering
+mod Spelling
 mod Lowest
 mod Following
 mod Marking

@@ -15,7 +15,6 @@ ghost use Rattle.search.specs.Distances.{Distances};
 ghost use Rattle.search.specs.Ready.{Ready};
 ghost use Rattle.search.specs.Spread.{Spread};
 
-use arrayvec::ArrayVec;
 use std::marker::Model;
 use std::mem;
 
@@ -23,20 +22,27 @@ use std::mem;
 const FAR: u8 = 255;
 
 /// A chain of cores: the newcomer's, and then for each task that is pushed off the core that it goes to.
-#[derive(Drop)]
+#[derive(Clone, Copy)]
 pub struct Route {
-    cores: ArrayVec<u8, { masks::WIDTH }>,
+    cores: [u8; masks::WIDTH],
+    len: usize,
 }
 
 impl Model for Route {
-    ghost use Rattle.std.specs.Prelude.{ℕ, List};
-    ghost use Rattle.search.specs.Taken.{ChainCores};
+    ghost use Rattle.std.specs.Prelude.{ℕ, List, length, take};
+    ghost use Rattle.std.proofs.Common.{sym};
+    ghost use Rattle.search.specs.Taken.{ChainCores, spelt, Spelled};
 
     ghost Value = { List ℕ };
 
-    ghost view = { λ r. r.cores.items };
+    ghost view = { λ r. take r.len r.cores };
 
-    ghost invariant = { λ r. ChainCores r.cores.items };
+    ghost invariant = { λ r. ChainCores (take r.len r.cores) × Spelled r.cores r.len };
+
+    // A copy needs the fields back from the list: so the places after the cores are 0.
+    ghost inverse = { λ cores. record { cores = spelt cores; len = length cores } };
+
+    ghost inverse_ok = { λ r h i. record { cores = sym h.1.spare i; len = h.1.size i } };
 }
 
 impl Route {
@@ -44,7 +50,7 @@ impl Route {
     pub fn moves(&self) -> u8
         ensures { result ≡ length self.now - 1 }
     {
-        (self.cores.len() - 1) as u8
+        (self.len - 1) as u8
     }
 
     /// Its cores, the newcomer's first.
@@ -52,7 +58,7 @@ impl Route {
         ensures is { result.now ≡ self.now }
         ensures chain { ChainCores result.now }
     {
-        self.cores.as_slice()
+        &self.cores[..self.len]
     }
 }
 
@@ -213,14 +219,16 @@ impl Sitters {
         ensures { let from = lowest self.now.count (has start) (within m.now.marks m.now.limit) in
             result ≡ route_of from (walk self.now.count (leads self.now.masks) (within m.now.marks) m.now.limit from) }
     {
-        let mut cores = ArrayVec::new();
+        let mut cores = [0; masks::WIDTH];
+        let mut len = 0;
         let mut mask = start;
         for limit in (0..m.limit + 1).rev() {
             let core = self.lowest_within(&m.marks, mask, limit).unwrap();
-            cores.push(core as u8);
+            cores[len] = core as u8;
+            len += 1;
             mask = self.masks[core];
         }
-        Route { cores }
+        Route { cores, len }
     }
 
     // The mask without the cores that the machine does not have.
