@@ -42,7 +42,10 @@ module _ (d : Dispatcher) (slot : ℕ) where
   ]
 
 module _ {d : Dispatcher} {slot : ℕ} {b : Outcome} (B : Blocks d slot b) where
-  not_ready_deletes : {r : Outcome} → number_of b.report.answer ≡ 10 → Settles b.dispatcher slot no_task (still_of (Ok tt)) r → Deletes d slot r
+  pub not_ready_below : number_of b.report.answer ≡ 10 → slot < slot_limit
+  not_ready_below e = called_below d (past_block d slot (rw e at B.answer)) refl
+
+  pub not_ready_deletes : {r : Outcome} → number_of b.report.answer ≡ 10 → Settles b.dispatcher slot no_task (still_of (Ok tt)) r → Deletes d slot r
   not_ready_deletes e s =
       let h : Answers (block_refusals d slot) 10 = rw e at B.answer in
       let p = settles_promised (done_answered d (past_block d slot h)) (rw (B.kept (λ z. omega arith)) at s) in
@@ -63,7 +66,7 @@ module _ {d : Dispatcher} {slot : ℕ} {b : Outcome} (B : Blocks d slot b) where
   -- p is reported after the block: done where it answers 10, and else what it reports
   module _ {p : Report} (not_ready : number_of b.report.answer ≡ 10 → p ≡ still_of (Ok tt)) (other : number_of b.report.answer ≢ 10 → p ≡ b.report) where
     pub reported_below : number_of p.answer ≡ 0 → slot < slot_limit
-    reported_below z = elim (ℕ_discrete (number_of b.report.answer) 10) [ yes e ↦ called_below d (past_block d slot (rw e at B.answer)) refl | no n ↦ called_below d B.answer (rw (other n) at z) ]
+    reported_below z = elim (ℕ_discrete (number_of b.report.answer) 10) [ yes e ↦ not_ready_below e | no n ↦ called_below d B.answer (rw (other n) at z) ]
 
     pub reported_deletes : {r : Outcome} → Settles b.dispatcher slot no_task p r → Deletes d slot r
     reported_deletes s = elim (ℕ_discrete (number_of b.report.answer) 10) [ yes e ↦ not_ready_deletes e (rw (not_ready e) at s) | no n ↦ block_deletes n (rw (other n) at s) ]

@@ -1,3 +1,4 @@
+pub mod Verdicts
 pub mod Same
 pub mod Faultless
 pub mod Sections

@@ -8,8 +8,8 @@ use mathlib.Core.List.{List, [], ◌∷◌, ◌++◌}
 use native.Mathlib.Decide.{ℕ_discrete, dec_lt}
 use native.Mathlib.Omega.{arith}
 use native.Mathlib.Numerals.{add-one, one-add}
-use lib.ListN.{length, get_or, set, length-append, take, drop}
-use lib.Seq.{ext_get_or, set-append_seam, drop-cons}
+use lib.ListN.{length, get_or, set, length-set, length-append, take, drop}
+use lib.Seq.{get_or-set_same, get_or-set_other, ext_get_or, set-append_seam, drop-cons}
 use lib.Dec.{ltb}
 use borrow.Rule.Slice.PartMut.{put_mid}
 use Rattle.std.proofs.lemmas.List.{length-take, length-drop, take_all, drop_all, drop-drop, append_assoc}
@@ -137,6 +137,32 @@ place_leave l t u n h = go (came_back (place_in l t) (place_in l u) apart)
 
         before : (i : ℕ) → i < j → get_or (leave_order l t) i none ≢ u
         before i b = rw (leave_at l t i) (before_place l u none (omega (arith, came_rises (place_in l t) b)))
+
+-- ---- the list made place by place: the places below k are as they will be, the others as they were
+
+pub record MovedUp (l : List ℕ) (t k : ℕ) (m : List ℕ) : Type 0 where
+  pub long : length m ≡ length l
+  pub from : place_in l t ≤ k
+  pub below : (j : ℕ) → j < k → get_or m j none ≡ get_or (leave_order l t) j none
+  pub above : (j : ℕ) → k ≤ j → get_or m j none ≡ get_or l j none
+
+pub moved_none : (l : List ℕ) (t : ℕ) {k : ℕ} → k ≡ place_in l t → MovedUp l t k l
+moved_none l t e = record { long = refl; from = omega arith; below = λ j b. sym (leave_before l t j (omega arith)); above = λ j b. refl }
+
+pub moved_one : {l : List ℕ} {t k : ℕ} {m : List ℕ} {v : ℕ} → MovedUp l t k m → k < length l → get_or l (k + 1) none ≡ v → MovedUp l t (k + 1) (set m k v)
+moved_one {l} {t} {k} {m} {v} h within e = record {
+  long = length-set m k v ∙ h.long;
+  from = omega (arith, h.from);
+  below = λ j b. go j b (ℕ_discrete j k);
+  above = λ j b. get_or-set_other m k j v none (λ q. omega (arith, q, b)) ∙ h.above j (omega arith);
+}
+  where
+    go : (j : ℕ) → j < k + 1 → Dec (j ≡ k) → get_or (set m k v) j none ≡ get_or (leave_order l t) j none
+    go j b (yes q) = rw (q, get_or-set_same m k v none (rw h.long within), leave_after l t k h.from, ← add-one k) (sym e)
+    go j b (no n) = get_or-set_other m k j v none n ∙ h.below j (omega arith)
+
+pub moved_all : {l : List ℕ} {t k : ℕ} {m : List ℕ} → MovedUp l t k m → length l ≤ k → m ≡ leave_order l t
+moved_all {l} {t} {k} {m} h end = ext_get_or none m (leave_order l t) (h.long ∙ sym (length_leave l t)) (λ j b. h.below j (omega (arith, h.long)))
 
 -- ---- the list made at once: what stands after the number is copied to the place before it, and the last place is unused
 

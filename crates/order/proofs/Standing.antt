@@ -12,12 +12,15 @@ use borrow.Author.Tests.{eqb-true, eqb-false, lt-ltb}
 use Rattle.std.specs.Prelude.{◌==◌, Some, None, position}
 use Rattle.std.proofs.lemmas.List.Quantifiers.{position-Some}
 use Rattle.std.proofs.lemmas.List.Folds.{position_or_len-set}
-use Rattle.std.proofs.lemmas.List.Sums.{passes_at_first, fails_before_first, position_or_len_is}
+use Rattle.std.proofs.lemmas.List.Sums.{passes_at_first, fails_before_first, position_or_len_is, prefix_len-le-length}
 use Rattle.laws.specs.Lists.{In, Distinct}
 use Rattle.laws.proofs.Testing.{eqb_true, eqb_false}
 use Rattle.order.specs.ComesBefore.{place_in}
 
 -- ---- the place: the first that holds the number
+
+pub place_le : (l : List ℕ) (t : ℕ) → place_in l t ≤ length l
+place_le l t = prefix_len-le-length _ l
 
 pub place_holds : (l : List ℕ) (t z : ℕ) → place_in l t < length l → get_or l (place_in l t) z ≡ t
 place_holds l t z h = eqb-true _ _ (passes_at_first (λ a. eqb a t) l z h)
@@ -36,11 +39,16 @@ place_most l t z {k} h = go (dec_lt k (place_in l t))
 pub place_is : (l : List ℕ) (t z : ℕ) {k : ℕ} → k < length l → get_or l k z ≡ t → ((j : ℕ) → j < k → get_or l j z ≢ t) → place_in l t ≡ k
 place_is l t z {k} within h before = position_or_len_is (λ a. eqb a t) l k z (omega arith) (λ j b. eqb_false (before j b)) (λ b. eqb_true h)
 
+pub place_none : (l : List ℕ) (t z : ℕ) → ((j : ℕ) → j < length l → get_or l j z ≢ t) → place_in l t ≡ length l
+place_none l t z nowhere = position_or_len_is (λ a. eqb a t) l (length l) z (omega arith) (λ j b. eqb_false (nowhere j b)) (λ b. absurd (omega arith))
+
+-- what a search for the number answers
+
 pub place_some : (l : List ℕ) (t : ℕ) {k : ℕ} → position (λ a. a == t) l ≡ Some k → (place_in l t ≡ k) × (k < length l)
 place_some l t {k} e = let s = position-Some (λ a. a == t) l k 0 e in (place_is l t 0 s.0 (eqb-true _ _ s.1) (λ j b. eqb-false _ _ (s.2 j b)), s.0)
 
-pub place_none : (l : List ℕ) (t : ℕ) → position (λ a. a == t) l ≡ None → length l ≤ place_in l t
-place_none l t e = go (dec_lt (place_in l t) (length l))
+pub place_absent : (l : List ℕ) (t : ℕ) → position (λ a. a == t) l ≡ None → length l ≤ place_in l t
+place_absent l t e = go (dec_lt (place_in l t) (length l))
   where
     go : Dec (place_in l t < length l) → length l ≤ place_in l t
     go (yes b) = let n = rw lt-ltb at e in cc

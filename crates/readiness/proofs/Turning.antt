@@ -3,7 +3,7 @@ use Prim.Native.Nat.{ℕ, ◌<◌}
 use mathlib.Core.Path.{◌≡◌, refl, sym, ◌∙◌, subst}
 use mathlib.Core.Logic.{inl, inr}
 use mathlib.Core.List.{List}
-use Rattle.std.specs.Prelude.{Ok}
+use Rattle.std.specs.Prelude.{Option, Some, Ok}
 use lib.ListN.{length, set}
 use Rattle.laws.specs.Answering.{Answers}
 use Rattle.laws.proofs.Answering.{none_applies}
@@ -27,7 +27,7 @@ use Rattle.seating.proofs.Same.{runs_ready}
 use Rattle.shifting.proofs.Board.{core_below, seat_below, legal}
 use Rattle.readiness.specs.Wake.{Woken, wake_refusals, Wakes}
 use Rattle.readiness.specs.Block.{freed_of, Refills, Blocked, block_refusals, Blocks}
-use Rattle.readiness.specs.Seats.{SitsAt, SitsNowhere, shifted_of}
+use Rattle.readiness.specs.Seats.{SitsAt, SitsNowhere, CoreOf, shifted_of}
 use Rattle.readiness.proofs.Freeing.{freed_idle, freed_sound}
 use Rattle.dispatcher.proofs.Ready.{ready_real}
 
@@ -61,6 +61,9 @@ module _ {d : Dispatcher} {slot : ℕ} (h : Answers (wake_refusals d slot) 0) wh
       woken = rw q (record { rest = refl; size = size ∙ sym L.seats; arrives = rw q at a })
 
 -- ---- block
+
+pub core_below_limit : (seats : List ℕ) (slot : ℕ) (core : Option ℕ) {c : ℕ} → core ≡ Some c → CoreOf seats slot core → c < core_limit
+core_below_limit seats slot core {c} e s = let sits : SitsAt seats slot c = rw e at s in sits.below
 
 module _ {d : Dispatcher} {slot : ℕ} (h : Answers (block_refusals d slot) 0) where
   pub blocked_sound : Sound d

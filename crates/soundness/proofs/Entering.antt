@@ -6,6 +6,7 @@ use mathlib.Core.Bool.{Bool, true, false}
 use mathlib.Core.List.{List}
 use native.Mathlib.Decide.{ℕ_discrete, dec_lt}
 use native.Mathlib.Omega.{arith}
+use Rattle.std.specs.Prelude.{Option, Some, None}
 use lib.ListN.{length, get_or, set, replicate, length-set, length-replicate, get_or-replicate}
 use lib.Seq.{get_or-set_same, get_or-set_other}
 use borrow.Author.Count.{below_more}
@@ -17,6 +18,7 @@ use Rattle.dispatcher.specs.Limits.{slot_limit, none}
 use Rattle.dispatcher.specs.Slots.{task_at, order_at, Ready}
 use Rattle.dispatcher.specs.Sound.{SlotsLegal, Entered, PlaceKept, OrderKept}
 use Rattle.dispatcher.specs.declared.Dispatcher.{Dispatcher}
+use Rattle.soundness.specs.Finds.{Finds}
 use Rattle.soundness.specs.Parts.{HeldBelow, Unused, UnusedFrom}
 use Rattle.soundness.specs.Entries.{PlaceBelow, Entries, EntriesEnd, TellsReady}
 use Rattle.dispatcher.proofs.Reading.{order_read}
@@ -38,15 +40,9 @@ place_most {d} {k} e s l = go (e.each s l)
     go (inl x) = omega (arith, x.0, e.within)
     go (inr x) = omega (arith, x.1)
 
--- ---- the place after the entries, as the machine reads it, holds slot v
+-- ---- the place after the entries holds slot v
 
-module _ {d : Dispatcher} {k v : ℕ} {places : List ℕ} (long : length d.order ≡ slot_limit) (below : k < slot_limit) (reads : v ≡ get_or d.order k 0) (e : Entries d k places) where
-  holds : order_at d k ≡ v
-  holds = order_read d k long below ∙ sym reads
-
-  pub entry_above : slot_limit ≤ v → EntriesEnd d k places
-  entry_above large = record { all = e; ends = λ _ h. omega (arith, h.slot, holds) }
-
+module _ {d : Dispatcher} {k v : ℕ} {places : List ℕ} (e : Entries d k places) (holds : order_at d k ≡ v) (small : v < slot_limit) where
   alone : {p : ℕ} → PlaceBelow d k v p → p ≡ none → HeldBelow d.order k v → ⊥
   alone (inl x) mark h = omega (arith, x.0, mark, e.within)
   alone (inr x) mark h = x.0 h
@@ -55,27 +51,24 @@ module _ {d : Dispatcher} {k v : ℕ} {places : List ℕ} (long : length d.order
   unmet {p} (inl x) h = absurd (h.not_twice p x.0 (x.1 ∙ sym holds))
   unmet (inr x) h = x.1
 
-  entry_decides : v < slot_limit → SlotsLegal d → {r : Bool} → Decides (((task_at d v).mask ≢ 0) × (get_or places v 0 ≡ none)) r → Decides (Entered d k) r
-  entry_decides small legal = rw (get_d_any places v 0 none (rw e.long small)) (decides_by
+  pub entry_decides : SlotsLegal d → {r : Bool} → Decides (((task_at d v).mask ≢ 0) × (get_or places v none ≡ none)) r → Decides (Entered d k) r
+  entry_decides legal = decides_by
       (λ h. record {
         slot = rw holds small;
         used = rw holds (λ x. h.0 x.1);
         not_twice = λ j l q. alone (e.each v small) h.1 (record { place = j; below = l; holds = q ∙ holds });
         no_gap = λ j l q. let x = (e.entered j l).slot in omega arith;
       })
-      (λ h. ((legal v small (rw holds at h.used)).mask.not_empty, unmet (e.each v small) h)))
-
-  pub entry_ends : v < slot_limit → SlotsLegal d → {r : Bool} → Decides (((task_at d v).mask ≢ 0) × (get_or places v 0 ≡ none)) r → r ≡ false → EntriesEnd d k places
-  entry_ends small legal t f = record { all = e; ends = λ _. (entry_decides small legal t).no f }
+      (λ h. ((legal v small (rw holds at h.used)).mask.not_empty, unmet (e.each v small) h))
 
   still : {s p : ℕ} → s ≢ v → PlaceBelow d k s p → PlaceBelow d (k + 1) s p
   still n (inl x) = inl (omega (arith, x.0), x.1)
   still n (inr x) = inr ((λ h. x.0 (held_before k (λ q. n (sym q ∙ holds)) h)), x.1)
 
-  pub entry_more : v < slot_limit → SlotsLegal d → {r : Bool} → Decides (((task_at d v).mask ≢ 0) × (get_or places v 0 ≡ none)) r → r ≡ true → Entries d (k + 1) (set places v k)
-  entry_more small legal t f = record {
+  pub entry_more : k < slot_limit → Entered d k → Entries d (k + 1) (set places v k)
+  entry_more below h = record {
     within = omega arith;
-    entered = below_more _ _ e.entered ((entry_decides small legal t).yes f);
+    entered = below_more _ _ e.entered h;
     long = length-set places v k ∙ e.long;
     each = λ s l. go s l (ℕ_discrete s v);
   }
@@ -83,6 +76,25 @@ module _ {d : Dispatcher} {k v : ℕ} {places : List ℕ} (long : length d.order
       go : (s : ℕ) → s < slot_limit → Dec (s ≡ v) → PlaceBelow d (k + 1) s (get_or (set places v k) s none)
       go s l (yes q) = rw (q, get_or-set_same places v k none (rw e.long small)) (inl (omega arith, holds))
       go s l (no q) = rw (get_or-set_other places v s k none q) (still q (e.each s l))
+
+-- ---- and as the machine reads it
+
+module _ {d : Dispatcher} {k v : ℕ} {places : List ℕ} (long : length d.order ≡ slot_limit) (below : k < slot_limit) (reads : v ≡ get_or d.order k 0) (e : Entries d k places) where
+  holds : order_at d k ≡ v
+  holds = order_read d k long below ∙ sym reads
+
+  pub entry_above : slot_limit ≤ v → EntriesEnd d k places
+  entry_above large = record { all = e; ends = λ _ h. omega (arith, h.slot, holds) }
+
+  module _ (small : v < slot_limit) (legal : SlotsLegal d) {r : Bool} (t : Decides (((task_at d v).mask ≢ 0) × (get_or places v 0 ≡ none)) r) where
+    decides : Decides (Entered d k) r
+    decides = entry_decides e holds small legal (rw (get_d_any places v none 0 (rw e.long small)) t)
+
+    pub entry_ends : r ≡ false → EntriesEnd d k places
+    entry_ends f = record { all = e; ends = λ _. decides.no f }
+
+    pub entry_goes : r ≡ true → Entries d (k + 1) (set places v k)
+    entry_goes f = entry_more e holds small below (decides.yes f)
 
 -- ---- the lowest surplus place after the entries is the lowest that breaks (c)
 
@@ -104,11 +116,15 @@ module _ {d : Dispatcher} {k : ℕ} {places : List ℕ} (e : EntriesEnd d k plac
       go (no n) (no l) (yes q) = e.ends (omega arith) (rw q at (h n))
       go (no n) (no l) (no q) = (h n).no_gap k (omega arith) (lower k (omega arith) (omega arith))
 
+  pub order_finds : (r : Option ℕ) → Finds slot_limit (UnusedFrom d.order k) r → Finds slot_limit (PlaceKept d) r
+  order_finds None f = λ i l. kept i (f i l)
+  order_finds (Some j) f = record { below = f.below; fails = broken j f.below f.fails f.lower; lower = λ i l. kept i (f.lower i l) }
+
   pub order_lowest : {j : ℕ} → length d.order ≡ slot_limit → Lowest (length (later d.order k)) (Unused (later d.order k)) j → Lowest slot_limit (PlaceKept d) (k + j)
-  order_lowest long f = let g = later_lowest d.order k long f in record { below = g.below; fails = broken _ g.below g.fails g.lower; lower = λ i l. kept i (g.lower i l) }
+  order_lowest long f = order_finds (Some _) (later_lowest d.order k long f)
 
   pub order_kept : length d.order ≡ slot_limit → Throughout (length (later d.order k)) (Unused (later d.order k)) → OrderKept d
-  order_kept long rest j l = kept j (later_unused d.order k long rest j l)
+  order_kept long rest = order_finds None (later_unused d.order k long rest)
 
 -- ---- where nothing but the mark stands after the entries, their places tell who is ready
 

@@ -31,7 +31,7 @@ pub record Marks (seats : List ℕ) (c : ℕ) (seated : List Bool) : Type 0 wher
   pub long : length seated ≡ slot_limit
   pub each : (s : ℕ) → s < slot_limit → Decides (HeldBelow seats c s) (get_or seated s false)
 
-marks_none : (seats : List ℕ) → Marks seats 0 (replicate slot_limit false)
+pub marks_none : (seats : List ℕ) → Marks seats 0 (replicate slot_limit false)
 marks_none seats = record {
   long = length-replicate slot_limit false;
   each = λ s h. decides_is (sym (get_or-replicate slot_limit s false false h)) (decides_false held_none);
@@ -51,15 +51,35 @@ module _ {seats : List ℕ} {c v : ℕ} {seated : List Bool} (holds : get_or sea
   still : {s : ℕ} {b : Bool} → s ≢ v → Decides (HeldBelow seats c s) b → Decides (HeldBelow seats (c + 1) s) b
   still n = decides_by (held_on c) (held_before c (λ q. n (sym q ∙ holds)))
 
-  marks_slot : v < slot_limit → Marks seats (c + 1) (set seated v true)
+  pub marks_slot : v < slot_limit → Marks seats (c + 1) (set seated v true)
   marks_slot small = record { long = length-set seated v true ∙ m.long; each = λ s h. go s h (ℕ_discrete s v) }
     where
       go : (s : ℕ) → s < slot_limit → Dec (s ≡ v) → Decides (HeldBelow seats (c + 1) s) (get_or (set seated v true) s false)
       go s h (yes e) = rw (e, get_or-set_same seated v true false (rw m.long small)) (decides_true (held_here c holds))
       go s h (no e) = rw (get_or-set_other seated v s true false e) (still e (m.each s h))
 
-  marks_idle : slot_limit ≤ v → Marks seats (c + 1) seated
+  pub marks_idle : slot_limit ≤ v → Marks seats (c + 1) seated
   marks_idle large = record { long = m.long; each = λ s h. still (λ e. omega arith) (m.each s h) }
+
+pub seat_decides : {d : Dispatcher} {c v : ℕ} {seated : List Bool} {places : List ℕ} → seat_at d c ≡ v → Marks d.seats c seated → TellsReady d places → v < slot_limit
+    → {r : Bool} → Decides ((get_or seated v false ≡ false) × (get_or places v none ≢ none) × (has (task_at d v).mask c ≡ true)) r → Decides (SeatKept d c) r
+seat_decides {v} holds m t small = decides_by
+    (λ h _. record {
+      ready = rw holds (t.ready v small h.1);
+      once = λ b l q. (m.each v small).no h.0 (record { place = b; below = l; holds = q ∙ holds });
+      allowed = rw holds h.2;
+    })
+    (λ h. let f = h (λ q. omega (arith, q, holds)) in (
+      decides_same (m.each v small) (decides_false (λ x. f.once x.place x.below (x.holds ∙ sym holds))),
+      t.told v (rw holds at f.ready),
+      rw holds at f.allowed,
+    ))
+
+pub seat_above : (d : Dispatcher) (c : ℕ) → slot_limit ≤ seat_at d c → seat_at d c ≢ none → SeatKept d c → ⊥
+seat_above d c l n h = let f = h n in omega (arith, f.ready.slot)
+
+pub seat_idle : (d : Dispatcher) (c : ℕ) → seat_at d c ≡ none → SeatKept d c
+seat_idle d c e n = absurd (n e)
 
 -- the next of the n cores of a dispatcher, as the machine reads it, holds v
 module _ {d : Dispatcher} {n c v : ℕ} {seated : List Bool} {places : List ℕ} (long : length d.seats ≡ core_limit) (count : n ≡ d.cores) (within : c < length (take n d.seats))
@@ -71,17 +91,7 @@ module _ {d : Dispatcher} {n c v : ℕ} {seated : List Bool} {places : List ℕ}
   holds = seat_read d c long (omega (arith, below, asked.0.1)) ∙ sym (reads ∙ get_or-take n d.seats c 0 (omega (arith, below)))
 
   decides : v < slot_limit → {r : Bool} → Decides ((get_or seated v false ≡ false) × (get_or places v 0 ≢ none) × (has (task_at d v).mask c ≡ true)) r → Decides (SeatKept d c) r
-  decides small = rw (get_d_any places v 0 none (rw asked.1.long small)) (decides_by
-      (λ h _. record {
-        ready = rw holds (asked.1.ready v small h.1);
-        once = λ b l q. (k.marks.each v small).no h.0 (record { place = b; below = l; holds = q ∙ holds });
-        allowed = rw holds h.2;
-      })
-      (λ h. let f = h (λ q. omega (arith, q, holds)) in (
-        decides_same (k.marks.each v small) (decides_false (λ x. f.once x.place x.below (x.holds ∙ sym holds))),
-        asked.1.told v (rw holds at f.ready),
-        rw holds at f.allowed,
-      )))
+  decides small = rw (get_d_any places v 0 none (rw asked.1.long small)) (seat_decides holds k.marks asked.1 small)
 
   pub seat_breaks : v < slot_limit → {r : Bool} → Decides ((get_or seated v false ≡ false) × (get_or places v 0 ≢ none) × (has (task_at d v).mask c ≡ true)) r → r ≡ false
       → Lowest d.cores (SeatKept d) c
@@ -91,8 +101,8 @@ module _ {d : Dispatcher} {n c v : ℕ} {seated : List Bool} {places : List ℕ}
       → KeptBelow d (c + 1) (set seated v true)
   seat_kept small t f = record { kept = below_more _ _ k.kept ((decides small t).yes f); marks = marks_slot holds k.marks small }
 
-  pub seat_idle : v ≡ none → KeptBelow d (c + 1) seated
-  seat_idle idle = record { kept = below_more _ _ k.kept (λ q. absurd (q (holds ∙ idle))); marks = marks_idle holds k.marks (omega (arith, idle)) }
+  pub idle_kept : v ≡ none → KeptBelow d (c + 1) seated
+  idle_kept idle = record { kept = below_more _ _ k.kept (seat_idle d c (holds ∙ idle)); marks = marks_idle holds k.marks (omega (arith, idle)) }
 
 -- ---- all cores, where a search has gone over those below the count
 
@@ -116,4 +126,4 @@ seats_kept {d} idle kept c l = go (dec_lt c d.cores)
   where
     go : Dec (c < d.cores) → SeatKept d c
     go (yes b) = kept c b
-    go (no b) = λ n. absurd (n (idle c l (omega arith)))
+    go (no b) = seat_idle d c (idle c l (omega arith))

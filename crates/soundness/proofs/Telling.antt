@@ -8,10 +8,10 @@ use Rattle.laws.specs.Lowest.{Lowest, Throughout}
 use Rattle.laws.specs.Answering.{Refusal, ◌when◌, turn_of, Answers}
 use Rattle.laws.proofs.Answering.{AllFrom, from_applies, answers_first, answers_then, answers_one, answers_none}
 use Rattle.dispatcher.specs.Limits.{core_limit, slot_limit}
-use Rattle.dispatcher.specs.Sound.{CountLegal, SlotsLegal, PlaceKept, OrderKept, MissingKept, MissingIdle, SeatKept}
+use Rattle.dispatcher.specs.Sound.{CountLegal, SlotKept, SlotsLegal, PlaceKept, OrderKept, MissingKept, MissingIdle, SeatKept}
 use Rattle.dispatcher.specs.Unsound.{unsound_refusals}
 use Rattle.dispatcher.specs.Promise.{Answered}
-use Rattle.dispatcher.specs.declared.Refusal.TheVariants.{UnsoundPlace, UnsoundMissingCore, UnsoundSeat}
+use Rattle.dispatcher.specs.declared.Refusal.TheVariants.{UnsoundCount, UnsoundSlot, UnsoundPlace, UnsoundMissingCore, UnsoundSeat}
 use Rattle.dispatcher.specs.declared.Dispatcher.{Dispatcher}
 
 -- ---- the rows of the conditions
@@ -31,6 +31,18 @@ not_all {k = k} low all = low.fails (all k low.below)
 -- ---- one condition after the other
 
 module _ {d : Dispatcher} where
+  pub tells_count : (CountLegal d → ⊥) → Answered (unsound_refusals d) d (Err (UnsoundCount d.cores))
+  tells_count n = record {
+    answer = broken 21 _ (omega arith) n (omega arith);
+    place = record { told = ((λ _. refl), λ z. absurd (z refl)) };
+  }
+
+  pub tells_slot : CountLegal d → {s : ℕ} → Lowest slot_limit (SlotKept d) s → Answered (unsound_refusals d) d (Err (UnsoundSlot s))
+  tells_slot counted low = record {
+    answer = kept 21 _ counted (broken 22 _ (omega arith) (not_all low) (omega arith));
+    place = record { told = ((λ e. absurd (omega arith)), λ _. ((λ _. low), λ z. absurd (z refl))) };
+  }
+
   pub tells_place : CountLegal d → SlotsLegal d → {k : ℕ} → Lowest slot_limit (PlaceKept d) k → Answered (unsound_refusals d) d (Err (UnsoundPlace k))
   tells_place counted legal low = record {
     answer = kept 21 _ counted (kept 22 _ legal (broken 23 _ (omega arith) (not_all low) (omega arith)));

@@ -69,6 +69,9 @@ slot_tests d slot more =
 pub slot_judges : (d : Dispatcher) (slot : ℕ) → JudgedBy (slot_refusals d slot) (slot_tests d slot [])
 slot_judges d slot = (decides_le slot_limit slot, refl, omega arith, (empty_decides (task_at d slot), refl, omega arith, tt))
 
+pub slot_answers : (d : Dispatcher) (slot : ℕ) → Answers (slot_refusals d slot) (number_of (first_of (slot_tests d slot [])))
+slot_answers d slot = judged (slot_refusals d slot) (slot_tests d slot []) (slot_judges d slot)
+
 pub slot_later : (d : Dispatcher) (slot : ℕ) → AllLater (slot_refusals d slot)
 slot_later d slot = judged_later (slot_refusals d slot) (slot_tests d slot []) (slot_judges d slot)
 

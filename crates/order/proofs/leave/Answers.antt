@@ -3,7 +3,7 @@ use mathlib.Core.Path.{◌≡◌, sym, ◌∙◌}
 use native.Mathlib.Omega.{arith}
 use lib.ListN.{length}
 use borrow.Author.Rules.{rules}
-use Rattle.order.proofs.Standing.{place_some, place_none}
+use Rattle.order.proofs.Standing.{place_some, place_absent}
 use Rattle.order.proofs.MovingUp.{moved, stays}
 use Rattle.order.proofs.leave.Goals as goal
 
@@ -15,4 +15,4 @@ returns-in-Some c =
     moved c.args.order c.copy_from_slice.new.self c.args.slot stands.0 (omega (arith, stands.1, length-is)) length-is copied.after
 
 pub returns-in_default : goal.returns-in_default
-returns-in_default c = stays _ _ (place_none c.args.order c.args.slot (sym c.place_in.ensures ∙ c.in_default.is))
+returns-in_default c = stays _ _ (place_absent c.args.order c.args.slot (sym c.place_in.ensures ∙ c.in_default.is))

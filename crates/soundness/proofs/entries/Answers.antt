@@ -1,7 +1,7 @@
 -- `entries` meets its promise: all places below the loop's are entered, and the table tells where among them each slot stands.
 use native.Mathlib.Omega.{arith}
 use borrow.Author.Rules.{rules}
-use Rattle.soundness.proofs.Entering.{entries_none, entry_above, entry_ends, entry_more}
+use Rattle.soundness.proofs.Entering.{entries_none, entry_above, entry_ends, entry_goes}
 use Rattle.soundness.proofs.entries.Goals as goal
 use Rattle.soundness.proofs.entries.Goals.{then-slot-ge-SLOTS-via-then-slot-ge-SLOTS, then-slot-ge-SLOTS-via-else-slot-ge-SLOTS+then-not-is_entry}
 
@@ -19,5 +19,5 @@ returns-then-slot-ge-SLOTS c =
 pub loop-k-preserved : goal.loop-k-preserved
 loop-k-preserved c = (
   c.loop-k.invariant.0,
-  entry_more (search rules) c.loop-k-test.true c.from-slot.ensures c.loop-k.invariant.1 c.if-slot-ge-SLOTS.false c.requires c.is_entry.ensures c.if-not-is_entry.false,
+  entry_goes (search rules) c.loop-k-test.true c.from-slot.ensures c.loop-k.invariant.1 c.if-slot-ge-SLOTS.false c.requires c.is_entry.ensures c.if-not-is_entry.false,
 )

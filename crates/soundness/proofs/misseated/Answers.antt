@@ -1,7 +1,7 @@
 -- `misseated` meets its promise: all cores below the loop's are kept, and the marks tell who sits there.
 use mathlib.Core.Path.{◌∙◌}
 use borrow.Author.Rules.{rules}
-use Rattle.soundness.proofs.Sitting.{kept_none, seat_breaks, seat_kept, seat_idle}
+use Rattle.soundness.proofs.Sitting.{kept_none, seat_breaks, seat_kept, idle_kept}
 use Rattle.soundness.proofs.misseated.Goals as goal
 use Rattle.soundness.proofs.misseated.Goals.{then-slot-lt-SLOTS+else-not-may_sit, else-slot-lt-SLOTS+else-sits-ne-NONE}
 
@@ -19,5 +19,5 @@ loop-c-preserved c =
           (seat_kept (search rules) c.from.ensures c.loop-c-test.true c.from-slot.ensures c.requires c.loop-c.invariant w.if-slot-lt-SLOTS.true w.may_sit.ensures w.if-not-may_sit.false)
       | else-slot-lt-SLOTS+else-sits-ne-NONE w ↦
           rw w.seated-is
-          (seat_idle (search rules) c.from.ensures c.loop-c-test.true c.from-slot.ensures c.requires c.loop-c.invariant (c.from-slot.ensures ∙ w.if-sits-ne-NONE.false))
+          (idle_kept (search rules) c.from.ensures c.loop-c-test.true c.from-slot.ensures c.requires c.loop-c.invariant (c.from-slot.ensures ∙ w.if-sits-ne-NONE.false))
     ]
