@@ -28,12 +28,13 @@ use std::{io, str};
 // No line that we print has more bytes, its newline included: no refusal and no mask is as long as the longest list.
 const ROOM: usize = cpulists::ROOM + 1;
 
-// A format of core sets, n being how many cores there may be.
+// The format that is read, and with it the other one, which is written; n is how many cores there may be. One type says both, so that no use of it can write
+// what it reads.
 trait Format {
     // What is promised of reading a text.
     ghost ReadsIn: { ℕ → List ℕ → Reading → Type 0 };
 
-    // Which text is written for a set.
+    // Which text a set has in the other format.
     ghost TextOut: { ℕ → ℕ → List ℕ → Type 0 };
 
     fn read(text: &[u8], limit: u8) -> Result<u64, Fault>
@@ -45,71 +46,73 @@ trait Format {
     // A set that was read has no core at or above the limit.
     ghost reads_below: { (n s : ℕ) (t : List ℕ) → ReadsIn n t (Ok s) → NamesMissing n s → ⊥ };
 
-    // The text of such a set is no longer than the longest list.
+    // Its text in the other format is no longer than the longest list.
     ghost text_longest: { (n s : ℕ) (t : List ℕ) → n ≤ set_bits → (NamesMissing n s → ⊥) → TextOut n s t → length t ≤ list_room };
 }
 
+// A List is read, and a Mask is written.
 struct List;
 
 impl Format for List {
     ghost ReadsIn = { ReadsList };
 
-    ghost TextOut = { λ n s t. ListOf s t };
+    ghost TextOut = { λ n s t. MaskOf (words_of n) s t };
 
     fn read(text: &[u8], limit: u8) -> Result<u64, Fault> {
         cpulists::read(text, limit)
     }
 
     fn write(set: u64, limit: u8, buffer: &mut [u8]) -> Result<usize, Refusal> {
-        cpulists::write(set, limit, buffer)
+        cpumasks::write(set, limit, buffer)
     }
 
     ghost reads_below = { λ n s t h. list_below h.0 h.1 };
 
-    ghost text_longest = { λ n s t few none w. list_room_lem few none w };
+    ghost text_longest = { λ n s t few none m. le_trans (mask_room_lem few m) (lit≤ tt) };
 }
 
+// A Mask is read, and a List is written.
 struct Mask;
 
 impl Format for Mask {
     ghost ReadsIn = { ReadsMask };
 
-    ghost TextOut = { λ n s t. MaskOf (words_of n) s t };
+    ghost TextOut = { λ n s t. ListOf s t };
 
     fn read(text: &[u8], limit: u8) -> Result<u64, Fault> {
         cpumasks::read(text, limit)
     }
 
     fn write(set: u64, limit: u8, buffer: &mut [u8]) -> Result<usize, Refusal> {
-        cpumasks::write(set, limit, buffer)
+        cpulists::write(set, limit, buffer)
     }
 
     ghost reads_below = { λ n s t h. mask_below h.0 h.1 };
 
-    ghost text_longest = { λ n s t few none m. le_trans (mask_room_lem few m) (lit≤ tt) };
+    ghost text_longest = { λ n s t few none w. list_room_lem few none w };
 }
 
 // Puts the line of a set.
-fn put_set<To: Format>(line: &mut ArrayVec<u8, ROOM>, set: u64, limit: u8)
+fn put_set<F: Format>(line: &mut ArrayVec<u8, ROOM>, set: u64, limit: u8)
     requires nothing { line.old.items ≡ [] }
     requires below { NamesMissing (cores_of limit) set → ⊥ }
-    ensures { LineOf (To.TextOut (cores_of limit) set) line.new.items }
+    ensures { LineOf (F.TextOut (cores_of limit) set) line.new.items }
 {
     // The writers put a text into lent bytes, as C has it.
     let mut text = [0u8; ROOM];
-    let length = To::write(set, limit, &mut text).unwrap();
+    let length = F::write(set, limit, &mut text).unwrap();
     texts::put(line, &text[..length]);
     line.push(b'\n');
 }
 
 // Puts what one line gives: the set that it means in the other format, or why it means none.
 #[tactic(auto, using(decimals::proofs::Fault::fault_longest))]
-fn turn<From: Format, To: Format>(line: &mut ArrayVec<u8, ROOM>, text: &[u8], limit: u8)
+fn turn<F: Format>(line: &mut ArrayVec<u8, ROOM>, text: &[u8], limit: u8)
     requires { line.old.items ≡ [] }
-    ensures { Turns (From.ReadsIn (cores_of limit) text.now) (To.TextOut (cores_of limit)) line.new.items }
+    ensures { Turns (F.ReadsIn (cores_of limit) text.now) (F.TextOut (cores_of limit)) line.new.items }
 {
-    match From::read(text, limit) {
-        Ok(set) => put_set::<To>(line, set, limit),
+    match F::read(text, limit) {
+        Ok(set) => put_set::<F>(line, set, limit),
         Err(fault) => decimals::put_fault(line, fault.refusal.number(), fault.offset),
     }
 }
@@ -123,13 +126,9 @@ enum Stop {
 }
 
 // Prints what one line gives.
-fn print_line<From: Format, To: Format>(
-    rt: &impl Print,
-    text: &[u8],
-    limit: u8,
-) -> Result<(), Stop> {
+fn print_line<F: Format>(rt: &impl Print, text: &[u8], limit: u8) -> Result<(), Stop> {
     let mut line = ArrayVec::new();
-    turn::<From, To>(&mut line, text, limit);
+    turn::<F>(&mut line, text, limit);
     rt.write_all(&line).map_err(Stop::Output)
 }
 
@@ -144,7 +143,7 @@ struct Window<'a> {
 
 impl Window<'_> {
     // Prints what each line gives that has its newline, and tells where the last of them ends. Among the bytes that are held back there is none.
-    fn print_lines<From: Format, To: Format>(
+    fn print_lines<F: Format>(
         &self,
         rt: &impl Print,
         filled: usize,
@@ -161,7 +160,7 @@ impl Window<'_> {
         };
         let end = self.held + last;
         for line in self.bytes[..end].split(|c| *c == b'\n') {
-            print_line::<From, To>(rt, line, limit)?;
+            print_line::<F>(rt, line, limit)?;
         }
         Ok(end + 1)
     }
@@ -181,7 +180,7 @@ impl Window<'_> {
     }
 
     // Reads once, and tells whether the input goes on. At its end the bytes that are held back are the last line.
-    fn read_on<From: Format, To: Format>(
+    fn read_on<F: Format>(
         &mut self,
         rt: &impl Print,
         input: &mut impl Read,
@@ -192,19 +191,19 @@ impl Window<'_> {
             .map_err(Stop::Input)?;
         if more == 0 {
             if 0 < self.held {
-                print_line::<From, To>(rt, &self.bytes[..self.held], limit)?;
+                print_line::<F>(rt, &self.bytes[..self.held], limit)?;
             }
             return Ok(false);
         }
         let filled = self.held + more;
-        let from = self.print_lines::<From, To>(rt, filled, limit)?;
+        let from = self.print_lines::<F>(rt, filled, limit)?;
         self.hold(from, filled)?;
         Ok(true)
     }
 }
 
 // Reads on until the input ends. A proved loop has to end, and nothing says that the input does: so it takes its turns from a range that no run uses up.
-fn read_to_end<From: Format, To: Format>(
+fn read_to_end<F: Format>(
     rt: &impl Print,
     input: &mut impl Read,
     bytes: &mut [u8],
@@ -214,7 +213,7 @@ fn read_to_end<From: Format, To: Format>(
 {
     let mut window = Window { bytes, held: 0 };
     for _ in 0..u64::MAX {
-        if !window.read_on::<From, To>(rt, input, limit)? {
+        if !window.read_on::<F>(rt, input, limit)? {
             break;
         }
     }
@@ -224,13 +223,9 @@ fn read_to_end<From: Format, To: Format>(
 // A line that does not fit, its newline included, is too long. The window stands on the stack, of which Linux gives a program 8 MiB unless it is told otherwise.
 const WINDOW: usize = 4194304;
 
-fn convert<From: Format, To: Format>(
-    rt: &impl Print,
-    input: &mut impl Read,
-    limit: u8,
-) -> Result<(), Stop> {
+fn convert<F: Format>(rt: &impl Print, input: &mut impl Read, limit: u8) -> Result<(), Stop> {
     let mut window = [0u8; WINDOW];
-    read_to_end::<From, To>(rt, input, &mut window, limit)
+    read_to_end::<F>(rt, input, &mut window, limit)
 }
 
 // A limit where none is given.
@@ -279,8 +274,8 @@ fn main(rt: HostRuntime) {
     };
     let mut word = [0u8; 4];
     let ended = match host::arg(&rt, 1, &mut word) {
-        b"list" => convert::<List, Mask>(&rt, &mut rt.stdin(), limit),
-        b"mask" => convert::<Mask, List>(&rt, &mut rt.stdin(), limit),
+        b"list" => convert::<List>(&rt, &mut rt.stdin(), limit),
+        b"mask" => convert::<Mask>(&rt, &mut rt.stdin(), limit),
         _ => return usage(&rt),
     };
     if let Err(stop) = ended {
