@@ -7,11 +7,12 @@ ghost use Rattle.files.specs.Reading.{Reads};
 ghost use Rattle.bench.specs.Tally.{counted_of};
 ghost use Rattle.bench.specs.Text.{place_text, verdict_text, last_text};
 
+use arrayvec::ArrayVec;
 use dispatcher::Dispatcher;
 use files::Layout;
 use lines::Line;
+use std::io;
 use std::io::Print;
-use std::{fmt, io};
 
 // A line where engine and dispatcher differ, and the lowest slot that differs there.
 #[derive(Clone, Copy, Debug, PartialEq, Eq)]
@@ -20,13 +21,18 @@ struct Difference {
     slot: u16,
 }
 
-impl fmt::Display for Difference {
-    ghost output = { λ d. Some (place_text d) };
-
-    fn fmt<W: fmt::Write>(&self, f: &mut fmt::Formatter<W>) -> fmt::Result {
-        let line = self.line;
-        let slot = self.slot;
-        write!(f, "line {line} slot {slot}")
+impl Difference {
+    // Where that is.
+    #[tactic(auto, using(crate::proofs::Texts::number_longest, crate::proofs::Texts::slot_longest, crate::proofs::Texts::place_put))]
+    fn place(self) -> ArrayVec<u8, LONGEST_PLACE>
+        ensures { result.items ≡ place_text self }
+    {
+        let mut text = ArrayVec::new();
+        texts::put(&mut text, b"line ");
+        decimals::put(&mut text, self.line as u64);
+        texts::put(&mut text, b" slot ");
+        decimals::put(&mut text, u64::from(self.slot));
+        text
     }
 }
 
@@ -56,41 +62,51 @@ impl Tally {
     }
 }
 
+// No place of a difference has more bytes.
+const LONGEST_PLACE: usize = 36;
+
+// No verdict has more, its newline included.
+const LONGEST_VERDICT: usize = 13;
+
+// No last line has more.
+const LONGEST_LAST: usize = 106;
+
 // What is said after a line: whether it agrees, or the lowest slot that differs.
-#[derive(Clone, Copy, Debug, PartialEq, Eq)]
-struct Verdict {
-    differs: Option<u16>,
-}
-
-impl fmt::Display for Verdict {
-    ghost output = { λ v. Some (verdict_text v.differs) };
-
-    fn fmt<W: fmt::Write>(&self, f: &mut fmt::Formatter<W>) -> fmt::Result {
-        match self.differs {
-            None => writeln!(f, "agree"),
-            Some(slot) => writeln!(f, "differ {slot}"),
+#[tactic(auto, using(crate::proofs::Texts::slot_longest, crate::proofs::Texts::differ_put))]
+fn verdict_line(differs: Option<u16>) -> ArrayVec<u8, LONGEST_VERDICT>
+    ensures { result.items ≡ verdict_text differs }
+{
+    let mut text = ArrayVec::new();
+    match differs {
+        None => texts::put(&mut text, b"agree\n"),
+        Some(slot) => {
+            texts::put(&mut text, b"differ ");
+            decimals::put(&mut text, u64::from(slot));
+            text.push(b'\n');
         }
     }
+    text
 }
 
 // What is said at the end of so many lines.
-#[derive(Clone, Copy, Debug, PartialEq, Eq)]
-struct Last {
-    tally: Tally,
-    lines: usize,
-}
-
-impl fmt::Display for Last {
-    ghost output = { λ l. Some (last_text l.tally l.lines) };
-
-    fn fmt<W: fmt::Write>(&self, f: &mut fmt::Formatter<W>) -> fmt::Result {
-        let agree = self.tally.agree;
-        let lines = self.lines;
-        match self.tally.first {
-            None => writeln!(f, "agree {agree}"),
-            Some(first) => writeln!(f, "agree {agree} of {lines}, first difference {first}"),
+#[tactic(auto, using(crate::proofs::Texts::agree_put))]
+fn last_line(tally: Tally, lines: usize) -> ArrayVec<u8, LONGEST_LAST>
+    ensures { result.items ≡ last_text tally lines }
+{
+    let mut text = ArrayVec::new();
+    texts::put(&mut text, b"agree ");
+    decimals::put(&mut text, tally.agree as u64);
+    match tally.first {
+        None => text.push(b'\n'),
+        Some(first) => {
+            texts::put(&mut text, b" of ");
+            decimals::put(&mut text, lines as u64);
+            texts::put(&mut text, b", first difference ");
+            texts::put(&mut text, &first.place());
+            text.push(b'\n');
         }
     }
+    text
 }
 
 // Prints the day, or fails where it can't be written.
@@ -113,13 +129,10 @@ fn print_day(rt: &impl Print, file: &[u8], layout: Layout) -> io::Result<()>
         // No comparison is refused: a day's dispatcher is sound (`day_agrees`).
         let differs = engine::compare(d).unwrap_or(None);
         rt.write_all(&line[..stepped.length])?;
-        rt.print(Verdict { differs })?;
+        rt.write_all(&verdict_line(differs))?;
         tally = tally.counted(k + 1, differs);
     }
-    rt.print(Last {
-        tally,
-        lines: calls,
-    })
+    rt.write_all(&last_line(tally, calls))
 }
 
 fn print(rt: &impl Print, file: &[u8]) -> io::Result<()> {

@@ -9,7 +9,7 @@ use files::Layout;
 use lines::Line;
 use std::io::{Print, Read};
 use std::rt::{Env, Files};
-use std::{fs, io, str};
+use std::{fs, str};
 
 // Whether the stored lines go on with this text.
 fn goes_on(stored: &mut impl Read, text: &[u8]) -> bool {
@@ -69,9 +69,9 @@ fn open<R: Files>(files: &R, name: &[u8]) -> Option<R::File> {
 
 // Whether the event file prints the stored lines and no more, and engine and dispatcher agree; nothing where one of them can't be opened or the event file can't
 // be read.
-fn judge(files: &impl Files, day: &[u8], lines: &[u8]) -> Option<bool> {
-    let mut day = open(files, day)?;
-    let mut stored = open(files, lines)?;
+fn judge<F: Read + Drop>(day: Option<F>, lines: Option<F>) -> Option<bool> {
+    let mut day = day?;
+    let mut stored = lines?;
     let mut file = files::room();
     let n = host::read_full(&mut day, &mut file).ok()?;
     Some(right_lines(&file[..n], &mut stored) && is_at_end(&mut stored))
@@ -80,20 +80,23 @@ fn judge(files: &impl Files, day: &[u8], lines: &[u8]) -> Option<bool> {
 // The system opens no file by a longer name.
 const LONGEST_NAME: usize = 4096;
 
-// One pair, by the places of its arguments.
-fn try_pair(rt: &(impl Env + Files + Print), day_at: usize, lines_at: usize) -> io::Result<()> {
+// One pair, by the places of its arguments. Both files are opened and the name is written before either is read, so that a pair which is never judged is named too.
+fn try_pair(rt: &(impl Env + Files + Print), day_at: usize, lines_at: usize) {
     let mut day = [0u8; LONGEST_NAME];
     let day = host::arg(rt, day_at, &mut day);
     let mut lines = [0u8; LONGEST_NAME];
     let lines = host::arg(rt, lines_at, &mut lines);
-    let right = judge(rt, day, lines).unwrap_or(false);
-    rt.write_all(day)?;
-    rt.println(if right { " ok" } else { " differs" })
+    let day_file = open(rt, day);
+    let lines_file = open(rt, lines);
+    // The one is written even where the other can't be, and the next pair is tried.
+    let _ = rt.write_all(day);
+    let right = judge(day_file, lines_file).unwrap_or(false);
+    let _ = rt.println(if right { " ok" } else { " differs" });
 }
 
 fn main(rt: HostRuntime) {
     // The first argument is the program's own name.
     for pair in 0..host::arg_count(&rt) / 2 {
-        let _ = try_pair(&rt, 2 * pair + 1, 2 * pair + 2);
+        try_pair(&rt, 2 * pair + 1, 2 * pair + 2);
     }
 }
