@@ -110,7 +110,7 @@ fn turn<From: Format, To: Format>(line: &mut ArrayVec<u8, ROOM>, text: &[u8], li
 {
     match From::read(text, limit) {
         Ok(set) => put_set::<To>(line, set, limit),
-        Err(fault) => decimals::put_fault(line, fault.refusal.number(), fault.offset),
+        Err(fault) => decimals::push_fault(line, fault.refusal.number(), fault.offset),
     }
 }
 
