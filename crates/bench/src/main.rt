@@ -29,9 +29,9 @@ impl Difference {
     {
         let mut text = ArrayVec::new();
         texts::put(&mut text, b"line ");
-        decimals::put(&mut text, self.line as u64);
+        decimals::push(&mut text, self.line as u64);
         texts::put(&mut text, b" slot ");
-        decimals::put(&mut text, u64::from(self.slot));
+        decimals::push(&mut text, u64::from(self.slot));
         text
     }
 }
@@ -81,7 +81,7 @@ fn verdict_line(differs: Option<u16>) -> ArrayVec<u8, LONGEST_VERDICT>
         None => texts::put(&mut text, b"agree\n"),
         Some(slot) => {
             texts::put(&mut text, b"differ ");
-            decimals::put(&mut text, u64::from(slot));
+            decimals::push(&mut text, u64::from(slot));
             text.push(b'\n');
         }
     }
@@ -95,12 +95,12 @@ fn last_line(tally: Tally, lines: usize) -> ArrayVec<u8, LONGEST_LAST>
 {
     let mut text = ArrayVec::new();
     texts::put(&mut text, b"agree ");
-    decimals::put(&mut text, tally.agree as u64);
+    decimals::push(&mut text, tally.agree as u64);
     match tally.first {
         None => text.push(b'\n'),
         Some(first) => {
             texts::put(&mut text, b" of ");
-            decimals::put(&mut text, lines as u64);
+            decimals::push(&mut text, lines as u64);
             texts::put(&mut text, b", first difference ");
             texts::put(&mut text, &first.place());
             text.push(b'\n');

@@ -113,7 +113,7 @@ fn turn<F: Format>(line: &mut ArrayVec<u8, ROOM>, text: &[u8], limit: u8)
 {
     match F::read(text, limit) {
         Ok(set) => put_set::<F>(line, set, limit),
-        Err(fault) => decimals::put_fault(line, fault.refusal.number(), fault.offset),
+        Err(fault) => decimals::push_fault(line, fault.refusal.number(), fault.offset),
     }
 }
 

@@ -57,10 +57,10 @@ impl Run {
         if !text.is_empty() {
             text.push(b',');
         }
-        decimals::put(text, u64::from(self.first));
+        decimals::push(text, u64::from(self.first));
         if self.first != self.last {
             text.push(b'-');
-            decimals::put(text, u64::from(self.last));
+            decimals::push(text, u64::from(self.last));
         }
     }
 }

@@ -198,6 +198,6 @@ pub fn fault_line(fault: Fault) -> ArrayVec<u8, { Line::LONGEST_FAULT }>
     ensures { result.items ≡ fault_text (refusal_number fault.refusal) fault.offset }
 {
     let mut line = ArrayVec::new();
-    decimals::put_fault(&mut line, fault.refusal.number(), fault.offset);
+    decimals::push_fault(&mut line, fault.refusal.number(), fault.offset);
     line
 }

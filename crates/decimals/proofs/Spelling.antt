@@ -2,7 +2,7 @@
 use Prim.Native.Nat.{ℕ, zero, suc, ◌+◌, ◌-◌, ◌*◌, ◌/◌, ◌%◌, ◌^◌, ◌≤◌, ◌<◌}
 use mathlib.Core.Path.{◌≡◌, refl, sym, ap, ◌∙◌}
 use mathlib.Core.Logic.{◌⊎◌, inl, inr}
-use mathlib.Core.List.{List, [], ◌∷◌, ◌++◌}
+use mathlib.Core.List.{List, [], ◌∷◌, ◌++◌, append_assoc}
 use native.Mathlib.Nat.{not-suc-le-zero, pow-suc}
 use native.Mathlib.Decide.{dec_lt}
 use native.Mathlib.Omega.{arith}
@@ -43,6 +43,16 @@ decimal_is n l = sym (decimal_from_appends spelled digit_by_digit (suc n) n l (o
 
 pub length_more : (n : ℕ) → 10 ≤ n → length (decimal n) ≡ length (decimal (n / 10)) + 1
 length_more n l = rw (decimal_more n l, length-append)
+
+pub length_small : (n : ℕ) → n < 10 → length (decimal n) ≡ 1
+length_small n l = rw (decimal_small n l) refl
+
+-- put behind a text digit by digit
+pub small_put : (n : ℕ) (text : List ℕ) {all : List ℕ} → n < 10 → all ≡ text ++ (digit n ∷ []) → all ≡ text ++ decimal n
+small_put n text l e = rw (decimal_small n l) e
+
+pub more_put : (n : ℕ) (text : List ℕ) {tenth all : List ℕ} → 10 ≤ n → tenth ≡ text ++ decimal (n / 10) → all ≡ tenth ++ (digit (n % 10) ∷ []) → all ≡ text ++ decimal n
+more_put n text l t e = rw (e, t, decimal_more n l) (append_assoc text (decimal (n / 10)) (digit (n % 10) ∷ []))
 
 -- what holds of one digit, and of a number if of its tenth, holds of every number
 by_digits : {P : ℕ → Type 0} → ((n : ℕ) → n < 10 → P n) → ((n : ℕ) → 10 ≤ n → P (n / 10) → P n) → (n : ℕ) → P n

@@ -53,7 +53,7 @@ fn put_slot(text: &mut Text, c: u8, slot: u16)
     if slot == Dispatcher::NONE {
         text.push(b'-');
     } else {
-        decimals::put(text, u64::from(slot));
+        decimals::push(text, u64::from(slot));
     }
 }
 
@@ -76,10 +76,10 @@ fn put_event(text: &mut Text, line: Line)
     ensures items { text.new.items ≡ text.old.items ++ joined space (event_fields line) }
     ensures len { length text.new.items ≡ length text.old.items + length (joined space (event_fields line)) }
 {
-    decimals::put(text, u64::from(line.number));
+    decimals::push(text, u64::from(line.number));
     text.push(b' ');
     text.push(letter(line.kind));
-    decimals::put_spaced(text, u64::from(line.slot));
+    decimals::push_spaced(text, u64::from(line.slot));
 }
 
 // Each field of the report after a space.
@@ -88,8 +88,8 @@ fn put_report(text: &mut Text, report: PlainReport)
     ensures items { text.new.items ≡ text.old.items ++ each_after space (report_fields report) }
     ensures len { length text.new.items ≡ length text.old.items + length (each_after space (report_fields report)) }
 {
-    decimals::put_spaced(text, u64::from(report.number));
-    decimals::put_spaced(text, u64::from(report.moves));
+    decimals::push_spaced(text, u64::from(report.number));
+    decimals::push_spaced(text, u64::from(report.moves));
     put_slot(text, b' ', report.started);
     put_slot(text, b' ', report.stopped);
 }
@@ -127,6 +127,6 @@ pub fn write_fault(number: u8, offset: usize, buffer: &mut [u8]) -> Result<usize
     ensures { WritesFault number offset buffer.old buffer.new result }
 {
     let mut fault = ArrayVec::<u8, { Line::LONGEST_FAULT }>::new();
-    decimals::put_fault(&mut fault, number, offset);
+    decimals::push_fault(&mut fault, number, offset);
     texts::hand_over(&fault, buffer).ok_or(Refusal::LineLong)
 }

@@ -1,4 +1,4 @@
--- `write` meets its promise: what it hands over is the line that it has made in its own bytes, and those are enough for every line of a sound dispatcher.
+-- `write` meets its promise: the bytes that it makes a line in are enough for every line of a sound dispatcher.
 use Rattle.std.proofs.Common.{◌≡◌, refl, length-take-le, arith, rules}
 use Rattle.dispatcher.specs.Sound.{Sound}
 use Rattle.dispatcher.proofs.Unsound.{done_sound}
@@ -17,6 +17,8 @@ put_line-requires c =
     let longest = line_longest c.args.line c.args.d wide S (search rules) in
     rw (c.new-text.ensures, c.from.ensures) (omega arith, omega (arith, S.count, length-take-le c.args.d.cores c.args.d.seats (search rules)), omega arith)
 
+-- what it hands over is the line that it has made in its own bytes,
+-- with the seats of the dispatcher's cores
 pub returns : goal.returns
 returns c =
     let told : c.deref.result.now ≡ text_of c.args.line c.args.d = rw (c.deref.ensures.0, c.put_line.ensures, c.new-text.ensures, c.from.ensures) refl in
