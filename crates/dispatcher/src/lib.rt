@@ -246,11 +246,14 @@ impl Dispatcher {
     pub fn is_ready(self, slot: u16) -> bool
         ensures { Decides (Ready self slot) result }
     {
+        if Dispatcher::SLOTS <= usize::from(slot) {
+            return false;
+        }
         // No exit at the place where it stands, so the compiler compares many places at once; `contains` takes seven times the instructions.
         let mut found = false;
         for stands in &self.order {
             found |= *stands == slot;
         }
-        found && usize::from(slot) < Dispatcher::SLOTS
+        found
     }
 }
