@@ -1,6 +1,7 @@
 -- What the answers of the search say of a dispatcher: how a task arrives, and how a core is filled.
-use Rattle.std.proofs.Common.{ℕ, ◌≤◌, ◌<◌, ◌≡◌, refl, ◌∙◌, inl, inr, arith, eqb, get_or, Option, Some, None, IsSome, rules}
+use Rattle.std.proofs.Common.{ℕ, ◌≤◌, ◌<◌, ◌≡◌, refl, ◌∙◌, inl, inr, List, arith, eqb, leb, get_or, Option, Some, None, IsSome, rules}
 use native.Mathlib.Decide.{dec_lt}
+use Rattle.laws.specs.Pick.{Picked}
 use Rattle.laws.proofs.Deciding.{decides_yes}
 use Rattle.laws.proofs.Testing.{eqb_true}
 use Rattle.masks.specs.Masks.{has, Added}
@@ -30,6 +31,12 @@ use Rattle.shifting.specs.Picking.{rank_at, LastOn, Held, FirstSeeking}
 use Rattle.shifting.specs.declared.Shift.{Shift}
 use Rattle.shifting.proofs.Board.{core_below, legal, ranked, sitters_masks, found_shift}
 use Rattle.masks.proofs.Adding.{only_core}
+
+pub searched_found : (n : ℕ) (masks : List ℕ) (start target : ℕ) (r : Option Route) {route : Route} → Searched n masks start target r → r ≡ Some route → Found n masks start target route
+searched_found n masks start target r S e = rw e at S
+
+pub searched_nowhere : (n : ℕ) (masks : List ℕ) (start target : ℕ) (r : Option Route) → Searched n masks start target r → r ≡ None → Nowhere n masks start target
+searched_nowhere n masks start target r S e = rw e at S
 
 -- ---- a task arrives
 
@@ -65,7 +72,11 @@ module _ {d : Dispatcher} {s : Sitters} {x seen : ℕ} (P : Pushing d s x) (R : 
       rw q (waits (legal S) (ranked P.shaped S) P.arriving.waits.ready P.full told {z = d.cores} (inr (record { none = h; is = refl })) (λ l. absurd (omega arith)))
 
   module _ {z : ℕ} (last : LastOn d seen (Some z)) where
-    last_ready : Ready d (seat_at d z)
+    -- a core is picked
+    pub last_real : Picked (λ a b. leb (rank_at d (seat_at d a)) (rank_at d (seat_at d b))) (has seen) d.cores z
+    last_real = last
+
+    pub last_ready : Ready d (seat_at d z)
     last_ready = (S.seats z (core_below S last.below) (P.full.held z (told.only z last.passes))).ready
 
     -- the last task's core is one of the machine's,
@@ -118,6 +129,9 @@ module _ {d : Dispatcher} {s : Sitters} {z target lead : ℕ} (L : Shaped d) (A 
   nobody_starts P q = rw q (stays_idle (ranked L A.sound) (seeks P) P.picks, refl)
 
   module _ {first : ℕ} (P : FirstSeeking d lead (Some first)) where
+    pub first_real : Picked (λ a b. leb (rank_at d b) (rank_at d a)) P.test slot_limit first
+    first_real = P.picks
+
     pub first_found : (route : Option Route) → Searched s.count s.masks (task_at d first).mask target route → IsSome route
     first_found (Some route) F = search rules
     first_found None Q = absurd (reached_none N (rw T.count at Q) (aim z A.below ∙ eqb_true (refl {a = z})) ((seeks P).only first P.picks.below P.picks.passes).1)

@@ -12,7 +12,7 @@ returns-in-Some c =
     let stands = place_some c.args.order c.args.slot (sym c.place_in.ensures ∙ c.in-Some.is) in
     let length-is : length c.args.order ≡ 128 = search rules in
     let copied = c.copy_from_slice.ensures in
-    moved c.args.order c.copy_from_slice.new.self c.args.slot stands.0 (omega (arith, stands.1, length-is)) length-is copied.after
+    moved c.args.order c.copy_from_slice.new.self c.args.slot (omega (arith, stands.0)) (omega (arith, stands.1, length-is)) length-is copied.after
 
 pub returns-in_default : goal.returns-in_default
 returns-in_default c = stays _ _ (place_absent c.args.order c.args.slot (sym c.place_in.ensures ∙ c.in_default.is))
