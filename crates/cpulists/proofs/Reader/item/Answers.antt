@@ -23,4 +23,4 @@ returns-then-last-first c =
     (omega (arith, c.in_ok-last.ensures.value_told))
 
 pub returns : goal.returns
-returns c = range_item (half_read c.requires.1 c.in_ok-first.ensures (grind (arith, common_steps)) (grind (arith, common_steps))) c.in_ok-last.ensures c.if-last-first.false
+returns c = range_item (half_read c.requires.1 c.in_ok-first.ensures (grind (arith, common_steps)) (grind (arith, common_steps))) c.in_ok-last.ensures (omega (arith, c.if-last-first.false))
