@@ -2,7 +2,7 @@
 // and the dispatcher does not run, or the other way round; the last line counts the lines that agree. A refused file has the one line that says why.
 #![tactic(auto)]
 
-ghost use Rattle.std.specs.Prelude.{◌<◌, ◌≡◌, Some};
+ghost use Rattle.std.specs.Prelude.{◌<◌, ◌≡◌};
 ghost use Rattle.files.specs.Reading.{Reads};
 ghost use Rattle.bench.specs.Tally.{counted_of};
 ghost use Rattle.bench.specs.Text.{place_text, verdict_text, last_text};

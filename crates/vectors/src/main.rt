@@ -80,7 +80,7 @@ fn judge<F: Read + Drop>(day: Option<F>, lines: Option<F>) -> Option<bool> {
 // The system opens no file by a longer name.
 const LONGEST_NAME: usize = 4096;
 
-// One pair, by the places of its arguments. Both files are opened and the name is written before either is read, so that a pair which is never judged is named too.
+// One pair, by the places of its arguments. Both files are opened and the name is written before either is read, so that a pair that is never judged is named.
 fn try_pair(rt: &(impl Env + Files + Print), day_at: usize, lines_at: usize) {
     let mut day = [0u8; LONGEST_NAME];
     let day = host::arg(rt, day_at, &mut day);
