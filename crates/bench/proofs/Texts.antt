@@ -1,6 +1,6 @@
 -- What is said: its pieces one after the other, and how long it is.
-use Prim.Native.Nat.{ℕ, ◌^◌, ◌≤◌, ◌<◌}
-use mathlib.Core.Path.{◌≡◌, sym, ◌∙◌}
+use Prim.Native.Nat.{ℕ, ◌+◌, ◌^◌, ◌≤◌, ◌<◌}
+use mathlib.Core.Path.{◌≡◌, refl, sym, ◌∙◌}
 use mathlib.Core.List.{List, [], ◌∷◌, ◌++◌, append_assoc, append-nil}
 use native.Mathlib.Omega.{arith}
 use lib.ListN.{length, length-append}
@@ -52,6 +52,9 @@ number_longest n l = decimal_length 20 n (omega arith) (omega arith)
 pub slot_longest : (n : ℕ) → n < 2 ^ 16 → length (decimal n) ≤ 5
 slot_longest n l = decimal_length 5 n (omega arith) (omega arith)
 
+pub differ_length : (slot : ℕ) → length (verdict_text (Some slot)) ≡ 8 + length (decimal slot)
+differ_length slot = simp append-nil (omega (arith, length-append (decimal slot) (newline ∷ [])))
+
 pub verdict_longest : (differs : Option ℕ) → IfSome differs (λ slot. slot < 2 ^ 16) → length (verdict_text differs) ≤ 13
 verdict_longest None l = omega arith
 verdict_longest (Some slot) l = simp append-nil (omega (arith, length-append (decimal slot) (newline ∷ []), slot_longest slot (omega arith)))
@@ -66,3 +69,18 @@ last_with_longest agree lines (Some d) a b l =
 
 pub last_longest : (t : Tally) (lines : ℕ) → t.agree < 2 ^ 64 → lines < 2 ^ 64 → IfSome t.first (λ d. (d.line < 2 ^ 64) × (d.slot < 2 ^ 16)) → length (last_text t lines) ≤ 106
 last_longest t lines = last_with_longest t.agree lines t.first
+
+module _ (t : Tally) (lines : ℕ) where
+  pub last_agree_length : t.first ≡ None → length (last_text t lines) ≡ 7 + length (decimal t.agree)
+  last_agree_length e = rw e (simp append-nil (omega (arith, length-append (decimal t.agree) (newline ∷ []))))
+
+  pub last_differ_length : (d : Difference) → t.first ≡ Some d
+      → length (last_text t lines) ≡ 41 + (length (decimal t.agree) + length (decimal lines) + length (decimal d.line) + length (decimal d.slot))
+  last_differ_length d e = rw e (simp (append_assoc, append-nil) (simp length-append (omega arith)))
+
+  pub last_begins : 6 + length (decimal t.agree) ≤ length (last_text t lines)
+  last_begins = go t.first refl
+    where
+      go : (f : Option Difference) → t.first ≡ f → 6 + length (decimal t.agree) ≤ length (last_text t lines)
+      go None e = omega (arith, last_agree_length e)
+      go (Some d) e = omega (arith, last_differ_length d e)

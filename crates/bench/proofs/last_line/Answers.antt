@@ -8,8 +8,8 @@ use Rattle.bench.proofs.last_line.Goals as goal
 pub push-requires : goal.push-requires
 push-requires c = (omega arith, omega (arith, ap length c.new-text.ensures, c.put.ensures.len, number_longest c.args.tally.agree (omega arith)))
 
-pub push-requires-2 : goal.push-requires-2
-push-requires-2 c = (omega arith, omega (arith, ap length c.new-text.ensures, c.put.ensures.len, number_longest c.args.tally.agree (omega arith), c.push.ensures.len))
+pub push-requires-in-None : goal.push-requires-2
+push-requires-in-None c = (omega arith, omega (arith, ap length c.new-text.ensures, c.put.ensures.len, number_longest c.args.tally.agree (omega arith), c.push.ensures.len))
 
 pub put-requires-in-Some : goal.put-requires-in-Some
 put-requires-in-Some c = (omega arith, omega (arith, ap length c.new-text.ensures, c.put.ensures.len, number_longest c.args.tally.agree (omega arith), c.push.ensures.len))
