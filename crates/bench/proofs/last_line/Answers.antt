@@ -8,7 +8,7 @@ use Rattle.bench.proofs.last_line.Goals as goal
 pub push-requires : goal.push-requires
 push-requires c = (omega arith, omega (arith, ap length c.new-text.ensures, c.put.ensures.len, number_longest c.args.tally.agree (omega arith)))
 
-pub push-requires-in-None : goal.push-requires-2
+pub push-requires-in-None : goal.push-requires-in-None
 push-requires-in-None c = (omega arith, omega (arith, ap length c.new-text.ensures, c.put.ensures.len, number_longest c.args.tally.agree (omega arith), c.push.ensures.len))
 
 pub put-requires-in-Some : goal.put-requires-in-Some
